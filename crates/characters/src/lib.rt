@@ -1,0 +1,4 @@
+// The characters of a text: places, UTF-8, blanks, names, tokens. Nothing here knows the grammar.
+pub mod place;
+pub mod refusal;
+pub mod tokens;

@@ -1,1 +1,2 @@
 mod Places
+mod Passing

@@ -56,3 +56,16 @@ next-low {t = t} at e h z v f l = nexted at e h z (tailed v f (rw (lt-leb 128 t 
 
 pub next-high : {s : Text} {p₀ p : Place} {b t : ℕ} (at : Place) → ByteOf s (at .offset) b → (b ≡ 256 → ⊥) → p₀ ≡ past b at → Tailing s p₀ p → ByteOf s (p .offset) t → 192 ≤ t → p ≡ next s at
 next-high {t = t} at e h z v f l = nexted at e h z (tailed v f (rw (le-leb 128 t (omega arith), le-ltb t 192 l)))
+
+-- a step leaves less of the text
+pub on-less : {s : Text} {q : Place} (n : ℕ) (p : Place) → Stands s q → q ≡ onBy n p → 0 < n → length s - q .offset < length s - p .offset
+on-less {s} {q} n p h z l =
+    let o : q .offset ≡ p .offset + n = ap (λ (x : Place). x .offset) z in
+    let i : q .offset ≤ length s = h .inside in
+    omega arith
+
+pub less : {s : Text} {p q : Place} → Advanced s p q → length s - q .offset < length s - p .offset
+less {s} {p} {q} h =
+    let i : q .offset ≤ length s = h .stands .inside in
+    let j : p .offset < q .offset = h .further in
+    omega arith

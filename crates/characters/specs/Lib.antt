@@ -4,3 +4,4 @@ pub mod Blanks
 pub mod Names
 pub mod Tokens
 pub mod PlaceLaws
+pub mod BlankLaws

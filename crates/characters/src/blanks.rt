@@ -1,0 +1,150 @@
+// Blanks: spaces, line ends and comments between tokens.
+use crate::place::Place;
+use crate::place::byte;
+use crate::refusal::Refusal;
+use crate::tokens::Must;
+ghost use mathlib.Core.Path.{_≡_};
+ghost use Prim.Native.Nat.{_+_};
+ghost use lib.ListN.{drop};
+ghost use Rattle.characters.specs.Text.{Stands, byteAt, start};
+ghost use Rattle.characters.specs.Blanks.{blanks, fileStart, lineEnd};
+ghost use Rattle.characters.specs.BlankLaws.{Closes};
+
+// Past the blanks at `at`, or 19 where a comment does not end.
+pub fn skip(text: &[u8], at: Place) -> Must
+    requires { ⌜ Stands (now text) at ⌝ }
+    ensures { λ r. ⌜ r ≡ blanks (now (text .entry)) at ⌝ }
+{
+    let mut p = at;
+    loop {
+        let b = byte(text, p.offset);
+        match b {
+            32 => {
+                p = p.on(1);
+            }
+            10 => {
+                p = p.line_on();
+            }
+            9 => {
+                p = p.on(1);
+            }
+            12 => {
+                p = p.on(1);
+            }
+            13 => {
+                p = p.on(1);
+            }
+            47 => {
+                let after = p.offset + 1;
+                let c = byte(text, after);
+                match c {
+                    47 => {
+                        p = line_end(text, p);
+                    }
+                    42 => {
+                        let closed = block_end(text, p);
+                        match closed {
+                            Must::Taken { here: _, next } => {
+                                p = next;
+                            }
+                            Must::Failed { refusal, at: q } => {
+                                return Must::Failed { refusal, at: q };
+                            }
+                        }
+                    }
+                    _ => {
+                        return Must::Taken { here: at, next: p };
+                    }
+                }
+            }
+            _ => {
+                return Must::Taken { here: at, next: p };
+            }
+        }
+    }
+}
+
+// Past the line's LF, or at the end of the text.
+pub fn line_end(text: &[u8], at: Place) -> Place
+    requires { ⌜ Stands (now text) at ⌝ }
+    ensures { λ r. ⌜ r ≡ lineEnd (drop (at .offset) (now (text .entry))) at ⌝ }
+{
+    let mut p = at;
+    loop {
+        let b = byte(text, p.offset);
+        match b {
+            10 => {
+                return p.line_on();
+            }
+            256 => {
+                return p;
+            }
+            _ => {
+                p = p.past(b);
+            }
+        }
+    }
+}
+
+// Past the comment that opens at `at`, whose inner comments nest.
+fn block_end(text: &[u8], at: Place) -> Must
+    requires { ⌜ (Stands (now text) at) × (byteAt (now text) (at .offset) ≡ 47) × (byteAt (now text) (at .offset + 1) ≡ 42) ⌝ }
+    ensures { λ r. ⌜ Closes (now (text .entry)) at r ⌝ }
+{
+    let mut p = at.on(2);
+    let mut depth: u32 = 0;
+    loop {
+        let b = byte(text, p.offset);
+        match b {
+            256 => {
+                return Must::Failed {
+                    refusal: Refusal::EndOfInput,
+                    at: p,
+                };
+            }
+            47 => {
+                let after = p.offset + 1;
+                let c = byte(text, after);
+                if c == 42 {
+                    depth += 1;
+                    p = p.on(2);
+                } else {
+                    p = p.on(1);
+                }
+            }
+            42 => {
+                let after = p.offset + 1;
+                let c = byte(text, after);
+                if c == 47 {
+                    p = p.on(2);
+                    if depth == 0 {
+                        return Must::Taken { here: at, next: p };
+                    }
+                    depth -= 1;
+                } else {
+                    p = p.on(1);
+                }
+            }
+            _ => {
+                p = p.past(b);
+            }
+        }
+    }
+}
+
+// Where a unit in file form begins: past a first line that opens with `#!`.
+pub fn file_start(text: &[u8]) -> Place
+    requires { ⌜ Stands (now text) start ⌝ }
+    ensures { λ r. ⌜ r ≡ fileStart (now (text .entry)) ⌝ }
+{
+    let first = Place::start();
+    let a = byte(text, 0);
+    if a != 35 {
+        return first;
+    }
+    let b = byte(text, 1);
+    if b != 33 {
+        return first;
+    }
+    line_end(text, first)
+}

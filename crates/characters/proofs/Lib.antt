@@ -1,2 +1,4 @@
 mod Places
 mod Passing
+mod Naming
+mod Words

@@ -2,6 +2,8 @@ pub mod Text
 pub mod Refusals
 pub mod Blanks
 pub mod Names
+pub mod Words
 pub mod Tokens
 pub mod PlaceLaws
 pub mod BlankLaws
+pub mod NameLaws

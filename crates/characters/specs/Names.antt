@@ -1,11 +1,11 @@
 -- Names and reserved words. Assumes nothing.
 use mathlib.Core.Bool.{Bool, true, false, _&&_, _||_}
 use mathlib.Core.List.{List, [], _∷_}
-use Prim.Native.Nat.{ℕ, zero, suc, _+_, _-_}
+use Prim.Native.Nat.{ℕ, zero, suc, _+_, _-_, _*_}
 use lib.Dec.{leb, ltb, eqb}
 use lib.ListN.{length, take, drop}
 use Rattle.characters.specs.declared.place.Place.{Place}
-use Rattle.characters.specs.declared.refusal.Refusal.the-variants.{ExpectedIdentifier}
+use Rattle.characters.specs.declared.refusal.Refusal.the-variants.{ExpectedIdentifier, ReservedWord}
 use Rattle.characters.specs.declared.tokens.Must.{Must}
 use Rattle.characters.specs.declared.tokens.Must.the-variants.{Taken, Failed}
 use Rattle.characters.specs.Text.{Text, byteAt, ascii, past}
@@ -25,6 +25,11 @@ isNameByte b = isLetter b || isDigit b
 unfoldable pub along : Text → Place → Place
 along [] p = p
 along (b ∷ s) p = elim (isNameByte b) [ true ↦ along s (past b p) | false ↦ p ]
+
+-- the bytes of the name that a text begins with
+unfoldable pub run : Text → Text
+run [] = []
+run (b ∷ s) = elim (isNameByte b) [ true ↦ b ∷ run s | false ↦ [] ]
 
 abbrev pub nameBy : Bool → Text → Place → Must
 nameBy true s p = Taken p (along s p)
@@ -86,3 +91,16 @@ numbered k (w ∷ ws) n = elim (same w n) [ true ↦ k | false ↦ numbered (suc
 -- the number of a reserved word, from 1; 0 of any other name
 unfoldable pub wordOf : Text → ℕ
 wordOf n = numbered 1 reserved n
+
+abbrev pub freeBy : Text → Must → Must
+freeBy s (Taken p q) = elim (eqb (wordOf (part s (p .offset) (q .offset))) 0) [ true ↦ Taken p q | false ↦ Failed ReservedWord p ]
+freeBy s (Failed k q) = Failed k q
+
+-- the name at a place where reserved words are barred: 12 at the name's start
+unfoldable pub freeName : Text → Place → Must
+freeName s p = freeBy s (name s p)
+
+-- bytes as one number, each a digit to the base 256
+unfoldable pub foldOf : ℕ → Text → ℕ
+foldOf v [] = v
+foldOf v (b ∷ s) = foldOf (v * 256 + b) s

@@ -1,0 +1,22 @@
+-- `slot_at` reads its table. Assumes nothing.
+use mathlib.Core.Path.{refl}
+use Rattle.characters.specs.Words.{slots}
+use Rattle.characters.proofs.Words.{slot-below}
+use borrow.Author.Needs.{needs}
+use Rattle.characters.proofs.names.slot_at.Statement.{statement}
+use Rattle.characters.proofs.names.slot_at.Tie as tie
+use Rattle.characters.proofs.names.slot_at.Reads as reads
+use Rattle.characters.proofs.names.slot_at.Lts as lts
+
+mul-result : tie.Need-mul-result
+mul-result c = search needs
+
+array-read-result : tie.Need-array-read-result
+array-read-result c = search needs
+
+returns : tie.Need-returns
+unfolding slots
+returns c = (refl, slot-below (c .args .slot))
+
+pub slot-at-spec : {M : Type 1} → statement M
+slot-at-spec = tie.close (tie.spec mul-result array-read-result returns)

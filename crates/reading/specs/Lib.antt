@@ -1,0 +1,13 @@
+pub mod Promises
+pub mod Events
+pub mod Limits
+pub mod Process
+pub mod Answers
+pub mod Demands
+pub mod Suits
+pub mod Entry
+pub mod Says
+pub mod Laws
+pub mod Trial
+pub mod TrialSuits
+pub mod TrialExamples

@@ -1,0 +1,57 @@
+// Answers: what a reader's routine answers, and what the caller of an entry is told.
+use crate::node::Node;
+use crate::tally::Tally;
+use characters::place::Place;
+use characters::refusal::Refusal;
+ghost use mathlib.Core.Path.{_≡_};
+ghost use Rattle.reading.specs.Answers.{answerFrom};
+
+// Read up to `at`, with a node; or refused at `at`. Either with the tally reached.
+pub enum Out {
+    Read {
+        at: Place,
+        node: Node,
+        tally: Tally,
+    },
+    Refused {
+        refusal: Refusal,
+        at: Place,
+        tally: Tally,
+    },
+}
+
+// The number (0: accepted, else the refusal's), the place, and both counts.
+pub struct Answer {
+    pub number: u32,
+    pub line: u32,
+    pub column: u32,
+    pub records: u32,
+    pub comparisons: u32,
+}
+
+impl Out {
+    // What the caller is told.
+    pub fn answer(self) -> Answer
+        ensures { λ r. ⌜ r ≡ answerFrom self ⌝ }
+    {
+        match self {
+            Out::Read { at, node: _, tally } => Answer {
+                number: 0,
+                line: at.line,
+                column: at.column,
+                records: tally.records,
+                comparisons: tally.comparisons,
+            },
+            Out::Refused { refusal, at, tally } => {
+                let number = refusal.number();
+                Answer {
+                    number,
+                    line: at.line,
+                    column: at.column,
+                    records: tally.records,
+                    comparisons: tally.comparisons,
+                }
+            }
+        }
+    }
+}

@@ -1,0 +1,23 @@
+// Tallies: what is counted on the way.
+ghost use mathlib.Core.Path.{_≡_};
+ghost use Rattle.reading.specs.Events.{start};
+
+// Records made, comparisons made, and ids given out.
+pub struct Tally {
+    pub records: u32,
+    pub comparisons: u32,
+    pub ids: u32,
+}
+
+impl Tally {
+    // The tally that a reading begins with.
+    pub fn start() -> Self
+        ensures { λ r. ⌜ r ≡ start ⌝ }
+    {
+        Self {
+            records: 0,
+            comparisons: 0,
+            ids: 0,
+        }
+    }
+}

@@ -176,11 +176,11 @@ unfolding freeName
 free-yes {s} {at} {h} {q} {r} {k} v e f w z = go (eq-eqb (wordOf (part s (h .offset) (q .offset))) 0 (sym w ∙ z)) ∙ ap (freeBy s) (sym f ∙ e)
   where
     go : eqb (wordOf (part s (h .offset) (q .offset))) 0 ≡ true → Taken h q ≡ freeBy s (Taken h q)
-    go t = rw t refl
+    go t = rw (t, freeBy) refl
 
 pub free-no : {s : Text} {at h q : Place} {r : Must} {k : ℕ} → Stands s at → r ≡ name s at → r ≡ Taken h q → k ≡ wordOf (part s (h .offset) (q .offset)) → (k ≡ 0 → ⊥) → Failed ReservedWord h ≡ freeName s at
 unfolding freeName
 free-no {s} {at} {h} {q} {r} {k} v e f w n = go (ne-eqb (wordOf (part s (h .offset) (q .offset))) 0 (λ z. n (w ∙ z))) ∙ ap (freeBy s) (sym f ∙ e)
   where
     go : eqb (wordOf (part s (h .offset) (q .offset))) 0 ≡ false → Failed ReservedWord h ≡ freeBy s (Taken h q)
-    go t = rw t refl
+    go t = rw (t, freeBy) refl

@@ -17,6 +17,7 @@ the random numbers are made here.
 """
 
 import itertools
+import os
 import re
 import sys
 
@@ -183,7 +184,7 @@ class Unit:
         out = "#["
         in_run = False
         for _ in range(rng.below(4)):
-            # An open \\a run takes no second one.
+            # A run of ASCII that is still open takes no second one.
             kind = 1 + rng.below(2) if in_run and not self.slip() else rng.below(3)
             in_run = False
             if kind == 0:
@@ -585,10 +586,14 @@ def main():
     except (IndexError, KeyError, ValueError):
         sys.exit(__doc__)
     out = sys.stdout.buffer
-    for text in found:
-        if isinstance(text, str):
-            text = text.encode()
-        out.write(b"TEXT %d\n%s\n" % (len(text), text))
+    try:
+        for text in found:
+            if isinstance(text, str):
+                text = text.encode()
+            out.write(b"TEXT %d\n%s\n" % (len(text), text))
+        out.flush()
+    except BrokenPipeError:
+        os._exit(1)     # the reader has enough
 
 
 if __name__ == "__main__":

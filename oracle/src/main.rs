@@ -33,6 +33,7 @@ struct Options
     message: bool,
     brief: bool,
     file_form: bool,
+    rust: bool,
 }
 
 /// Write the engine's answer to one text.
@@ -82,6 +83,7 @@ fn read(text: &str, opt: Options, out: &mut Vec<u8>)
     }
 
     match result {
+        Ok(prog) if opt.rust => tree::print_rust(&prog, out),
         Ok(prog) => tree::list(&prog, text, input.get_pos(), opt.brief, out),
         Err(e) => refused(messages::number(&e.msg), e.pos, &e.msg, opt, out),
     }
@@ -169,8 +171,9 @@ fn main()
             "--message" => opt.message = true,
             "--brief" => opt.brief = true,
             "--file-form" => opt.file_form = true,
+            "--rust" => opt.rust = true,
             _ => {
-                eprintln!("usage: plush-oracle [--batch | --stored] [--message] [--brief] [--file-form]");
+                eprintln!("usage: plush-oracle [--batch | --stored] [--message] [--brief] [--file-form] [--rust]");
                 std::process::exit(2);
             }
         }

@@ -46,6 +46,23 @@ pub fn list(prog: &Program, text: &str, end: SrcPos, brief: bool, out: &mut Vec<
     }
 }
 
+/// The engine's own print of its tree, unchanged: ids, names and positions as
+/// it holds them (file:line:column). For looking, not for comparing.
+pub fn print_rust(prog: &Program, out: &mut Vec<u8>)
+{
+    let mut funs: Vec<_> = prog.funs.values().collect();
+    funs.sort_by_key(|fun| usize::from(fun.id));
+    for fun in funs {
+        write!(out, "{:?}\n", fun).unwrap();
+    }
+
+    let mut classes: Vec<_> = prog.classes.values().collect();
+    classes.sort_by_key(|class| usize::from(class.id));
+    for class in classes {
+        write!(out, "{:?}\n", class).unwrap();
+    }
+}
+
 fn sign(op: BinOp) -> &'static str
 {
     match op {

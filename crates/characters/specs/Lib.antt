@@ -1,9 +1,14 @@
 pub mod Text
 pub mod Refusals
+pub mod Utf8
 pub mod Blanks
 pub mod Names
 pub mod Words
 pub mod Tokens
 pub mod PlaceLaws
+pub mod Utf8Laws
+pub mod Utf8Lead
 pub mod BlankLaws
 pub mod NameLaws
+pub mod TokenLaws
+pub mod Utf8Ex

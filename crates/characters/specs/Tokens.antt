@@ -5,6 +5,7 @@ use Prim.Native.Nat.{ℕ, _+_}
 use lib.Dec.{eqb}
 use lib.ListN.{length, drop}
 use Rattle.characters.specs.declared.place.Place.{Place}
+use Rattle.characters.specs.declared.refusal.Refusal.the-variants.{ExpectedToken}
 use Rattle.characters.specs.declared.tokens.Look.{Look}
 use Rattle.characters.specs.declared.tokens.Look.the-variants.{Found, Missing, Halted}
 use Rattle.characters.specs.declared.tokens.Must.{Must}
@@ -46,3 +47,12 @@ keywordPast s w (Failed k q) = Halted k q
 -- the keyword past the blanks
 unfoldable pub keyword : Text → Place → Text → Look
 keyword s p w = keywordPast s w (blanks s p)
+
+abbrev pub needed : Look → Must
+needed (Found h n) = Taken h n
+needed (Missing h) = Failed ExpectedToken h
+needed (Halted k q) = Failed k q
+
+-- the token past the blanks, or 10 at "the place reached"
+unfoldable pub expected : Text → Place → Text → Must
+expected s p w = needed (token s p w)

@@ -4,3 +4,4 @@ pub mod names;
 pub mod place;
 pub mod refusal;
 pub mod tokens;
+pub mod utf8;

@@ -12,3 +12,4 @@ pub mod BlankLaws
 pub mod NameLaws
 pub mod TokenLaws
 pub mod Utf8Ex
+pub mod Examples

@@ -10,20 +10,7 @@ use Rattle.reading.specs.declared.tally.Tally.{Tally}
 use Rattle.reading.specs.declared.answer.Out.{Out}
 use Rattle.reading.specs.declared.answer.Out.the-variants.{Read, Refused}
 use Rattle.reading.specs.declared.answer.Answer.{Answer}
-use Rattle.reading.specs.Events.{
-  Which,
-  levels,
-  records,
-  comparisons,
-  End,
-  Done,
-  Stop,
-  Crossed,
-  Spent,
-  Outcome,
-  recordsOf,
-  comparisonsOf,
-}
+use Rattle.reading.specs.Events.{Which, levels, records, comparisons, End, Done, Stop, Crossed, Spent, Outcome, recordsOf, comparisonsOf}
 
 -- 5, 6, 7: the refusal of each limit.
 abbrev pub refusalOf : Which → Refusal

@@ -7,24 +7,7 @@ use Prim.Native.Nat.{ℕ, _+_, _≤_}
 use lib.ListN.{length}
 use Rattle.characters.specs.declared.place.Place.{Place}
 use Rattle.reading.specs.declared.tally.Tally.{Tally}
-use Rattle.reading.specs.Events.{
-  Rec,
-  Earlier,
-  Event,
-  Which,
-  End,
-  Done,
-  Stop,
-  Crossed,
-  Spent,
-  Outcome,
-  recordsOf,
-  comparisonsOf,
-  deepest,
-  start,
-  step,
-  steps,
-}
+use Rattle.reading.specs.Events.{Rec, Earlier, Event, Which, End, Done, Stop, Crossed, Spent, Outcome, recordsOf, comparisonsOf, deepest, start, step, steps}
 use Rattle.reading.specs.Limits.{Bound, upto, none, Limits, goes, over, judge}
 
 -- A bound that is no lower.

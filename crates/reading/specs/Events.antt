@@ -85,12 +85,22 @@ deepest (numbered p ∷ es) = deepest es
 abbrev pub start : Tally
 start = record { records = 0; comparisons = 0; ids = 0 }
 
+-- One more record, one more comparison, one more id.
+abbrev pub withRecord : Tally → Tally
+withRecord t = record { records = t .records + 1; comparisons = t .comparisons; ids = t .ids }
+
+abbrev pub withComparison : Tally → Tally
+withComparison t = record { records = t .records; comparisons = t .comparisons + 1; ids = t .ids }
+
+abbrev pub withId : Tally → Tally
+withId t = record { records = t .records; comparisons = t .comparisons; ids = t .ids + 1 }
+
 -- The tally after an event.
 unfoldable pub step : Event → Tally → Tally
 step (entered n p) t = t
-step (recorded r p) t = record { records = t .records + 1; comparisons = t .comparisons; ids = t .ids }
-step (compared p) t = record { records = t .records; comparisons = t .comparisons + 1; ids = t .ids }
-step (numbered p) t = record { records = t .records; comparisons = t .comparisons; ids = t .ids + 1 }
+step (recorded r p) t = withRecord t
+step (compared p) t = withComparison t
+step (numbered p) t = withId t
 
 -- The tally after several.
 unfoldable pub steps : List Event → Tally → Tally

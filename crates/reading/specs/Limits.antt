@@ -5,23 +5,7 @@ use mathlib.Core.Bool.{Bool, true, false}
 use lib.Dec.{ltb, leb}
 use Rattle.characters.specs.declared.place.Place.{Place}
 use Rattle.reading.specs.declared.tally.Tally.{Tally}
-use Rattle.reading.specs.Events.{
-  Event,
-  entered,
-  recorded,
-  compared,
-  numbered,
-  Which,
-  levels,
-  records,
-  comparisons,
-  End,
-  Crossed,
-  Outcome,
-  ended,
-  cons,
-  step,
-}
+use Rattle.reading.specs.Events.{Event, entered, recorded, compared, numbered, Which, levels, records, comparisons, End, Crossed, Outcome, ended, cons, step}
 
 -- A limit on records or comparisons; the unlimited reading has none.
 pub data Bound : Type 0 where

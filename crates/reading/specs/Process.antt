@@ -11,25 +11,7 @@ use Rattle.characters.specs.declared.tokens.Must.{Must}
 use Rattle.characters.specs.declared.tokens.Must.the-variants.{Taken, Failed}
 use Rattle.reading.specs.declared.node.Node.{Node}
 use Rattle.reading.specs.declared.tally.Tally.{Tally}
-use Rattle.reading.specs.Events.{
-  Rec,
-  Event,
-  entered,
-  recorded,
-  compared,
-  numbered,
-  levels,
-  End,
-  Done,
-  Stop,
-  Crossed,
-  Spent,
-  Outcome,
-  ended,
-  cons,
-  start,
-  steps,
-}
+use Rattle.reading.specs.Events.{Rec, Event, entered, recorded, compared, numbered, levels, End, Done, Stop, Crossed, Spent, Outcome, ended, cons, start, steps}
 use Rattle.reading.specs.Limits.{Limits, free, guarded}
 
 -- What a rule does. A rule never recurs through the grammar: it says `call`.

@@ -7,7 +7,7 @@ use Rattle.characters.specs.declared.place.Place.{Place}
 use Rattle.reading.specs.declared.tally.Tally.{Tally}
 use Rattle.reading.specs.declared.answer.Out.{Out}
 use Rattle.reading.specs.Events.{Rec, Outcome, recordsOf, start, steps}
-use Rattle.reading.specs.Limits.{Limits, limited}
+use Rattle.reading.specs.Limits.{limited}
 use Rattle.reading.specs.Process.{Process, Grammar, making, comparing, under, run}
 use Rattle.reading.specs.Answers.{Tells}
 use Rattle.reading.specs.Entry.{Opening, entry}

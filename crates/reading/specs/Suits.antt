@@ -9,30 +9,12 @@ use lib.Dec.{T, leb, eqb}
 use lib.ListN.{length}
 use Rattle.characters.specs.declared.place.Place.{Place}
 use Rattle.characters.specs.declared.refusal.Refusal.{Refusal}
-use Rattle.characters.specs.declared.tokens.Look.{Look}
 use Rattle.characters.specs.declared.tokens.Look.the-variants.{Found, Missing, Halted}
-use Rattle.characters.specs.declared.tokens.Must.{Must}
 use Rattle.characters.specs.declared.tokens.Must.the-variants.{Taken, Failed}
 use Rattle.characters.specs.Refusals.{numberOf}
 use Rattle.reading.specs.declared.node.Node.{Node}
 use Rattle.reading.specs.Events.{Rec, Earlier, End, Done, Stop, Crossed, Spent}
-use Rattle.reading.specs.Process.{
-  Process,
-  done,
-  stop,
-  spent,
-  make,
-  compare,
-  fresh,
-  call,
-  test,
-  look,
-  must,
-  bind,
-  Grammar,
-  nodeAs,
-  plain,
-}
+use Rattle.reading.specs.Process.{Process, done, stop, spent, make, compare, fresh, call, test, look, must, bind, Grammar, nodeAs, plain}
 
 -- The refusals that a rule may give: 4, and 10 on. 1, 2, 3 come before reading; 5, 6, 7 are the limits'.
 abbrev pub proper : Refusal → Bool

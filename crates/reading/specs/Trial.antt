@@ -16,22 +16,7 @@ use Rattle.characters.specs.declared.tokens.Must.the-variants.{Taken, Failed}
 use Rattle.characters.specs.Text.{Text, byteAt, start as first}
 use Rattle.reading.specs.Events.{Field, word, ref, Rec, Outcome}
 use Rattle.reading.specs.Limits.{limited}
-use Rattle.reading.specs.Process.{
-  Process,
-  done,
-  stop,
-  spent,
-  make,
-  compare,
-  fresh,
-  call,
-  test,
-  look,
-  must,
-  bind,
-  Grammar,
-  reading,
-}
+use Rattle.reading.specs.Process.{Process, done, stop, spent, make, compare, fresh, call, test, look, must, bind, Grammar, reading}
 
 -- The place after a byte.
 abbrev pub on : Place → Place

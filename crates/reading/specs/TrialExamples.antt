@@ -1,7 +1,7 @@
 -- Readings of the small grammar, by computation: an accepted unit, refusals 5, 6 and 7, a rule's own refusals, ids, and the unlimited
 -- reading. Assumes nothing.
 use mathlib.Core.Path.{_≡_, refl}
-use mathlib.Core.List.{List, [], _∷_}
+use mathlib.Core.List.{[], _∷_}
 use Prim.Native.Nat.{ℕ, _+_}
 use Rattle.characters.specs.declared.place.Place.{Place}
 use Rattle.characters.specs.Text.{ascii}

@@ -3,9 +3,9 @@
 use mathlib.Core.Path.{_≡_, refl}
 use mathlib.Core.List.{List, [], _∷_}
 use mathlib.Core.Bool.{Bool, true, false, _&&_}
-use Prim.Native.Nat.{ℕ, zero, suc, _+_, _-_, _≤_, _<_}
+use Prim.Native.Nat.{ℕ, zero, suc, _-_, _≤_, _<_}
 use native.Mathlib.Omega.{arith}
-use lib.Dec.{ltb, leb, eqb}
+use lib.Dec.{leb, eqb}
 use lib.ListN.{length}
 use borrow.Author.Tests.{leb-false, ltb-true}
 use Rattle.characters.specs.declared.place.Place.{Place}
@@ -14,39 +14,12 @@ use Rattle.reading.specs.declared.node.Node.{Node}
 use Rattle.reading.specs.Events.{Rec, Earlier, start}
 use Rattle.reading.specs.Limits.{Limits, cut}
 use Rattle.reading.specs.Process.{Process, look, must, unlimited}
-use Rattle.reading.specs.Suits.{Since, With, Claim, Choice, Suits}
+use Rattle.reading.specs.Suits.{Since, Claim, Choice, Suits}
 use Rattle.reading.specs.Entry.{Opening, opened, entry}
 use Rattle.reading.specs.Promises.{exact}
-use Rattle.reading.specs.Laws.Suits.{since-same, since-with, since-trans}
-use Rattle.reading.specs.Laws.Rules.{
-  Fits,
-  fits-done,
-  fits-stop,
-  fits-make,
-  fits-compare,
-  fits-fresh,
-  fits-call,
-  fits-test,
-  fits-bind,
-}
-use Rattle.reading.specs.Trial.{
-  on,
-  seen,
-  sign,
-  held,
-  shut,
-  Routine,
-  expr,
-  turns,
-  newName,
-  letters,
-  group,
-  lambda,
-  digit,
-  grammar,
-  items,
-  unit,
-}
+use Rattle.reading.specs.Laws.Suits.{since-with, since-trans}
+use Rattle.reading.specs.Laws.Rules.{Fits, fits-done, fits-stop, fits-make, fits-compare, fits-fresh, fits-call, fits-test, fits-bind}
+use Rattle.reading.specs.Trial.{on, seen, sign, held, shut, Routine, expr, turns, newName, letters, group, lambda, digit, grammar, items, unit}
 
 -- The rest of the text falls; an answer stands further on, with a record that was made; records refer to earlier ones.
 abbrev pub choice : Text → Choice Routine

@@ -1,6 +1,7 @@
 // Tallies: what is counted on the way.
 ghost use mathlib.Core.Path.{_≡_};
-ghost use Rattle.reading.specs.Events.{start};
+ghost use Prim.Native.Nat.{_^_, _-_, _<_};
+ghost use Rattle.reading.specs.Events.{start, withId};
 
 // Records made, comparisons made, and ids given out.
 pub struct Tally {
@@ -18,6 +19,19 @@ impl Tally {
             records: 0,
             comparisons: 0,
             ids: 0,
+        }
+    }
+
+    // After one more id was given out.
+    pub fn numbered(self) -> Self
+        requires { ⌜ self .ids < 2 ^ 32 - 1 ⌝ }
+        ensures { λ r. ⌜ r ≡ withId self ⌝ }
+    {
+        let ids = self.ids + 1;
+        Self {
+            records: self.records,
+            comparisons: self.comparisons,
+            ids,
         }
     }
 }

@@ -3,44 +3,15 @@
 use mathlib.Core.Path.{_≡_, refl, sym, subst, _∙_}
 use mathlib.Core.List.{List, [], _∷_, _++_}
 use mathlib.Core.Bool.{Bool, true, false}
-use Prim.Native.Nat.{ℕ, suc, _+_, _≤_, _<_, max}
+use Prim.Native.Nat.{ℕ, _+_, _≤_}
 use native.Mathlib.Omega.{arith}
 use lib.ListN.{length}
-use lib.Dec.{ltb, leb}
+use lib.Dec.{leb}
 use borrow.Author.Tests.{ltb-true, leb-true}
 use Rattle.characters.specs.declared.place.Place.{Place}
 use Rattle.reading.specs.declared.tally.Tally.{Tally}
-use Rattle.reading.specs.Events.{
-  Event,
-  entered,
-  recorded,
-  compared,
-  numbered,
-  Which,
-  End,
-  Outcome,
-  recordsOf,
-  comparisonsOf,
-  deepest,
-  start,
-  step,
-  steps,
-}
-use Rattle.reading.specs.Limits.{
-  Bound,
-  upto,
-  none,
-  Limits,
-  room,
-  Verdict,
-  goes,
-  over,
-  verdict,
-  judge,
-  judged,
-  cutting,
-  cut,
-}
+use Rattle.reading.specs.Events.{Event, entered, recorded, compared, numbered, Which, End, Outcome, recordsOf, comparisonsOf, deepest, start, step, steps}
+use Rattle.reading.specs.Limits.{Bound, upto, none, Limits, room, Verdict, goes, over, verdict, judge, judged, cutting, cut}
 use Rattle.reading.specs.Process.{Process, Grammar, reading}
 use Rattle.reading.specs.Demands.{Below, Inside, AtMost, Counted}
 use Rattle.reading.specs.Laws.Exact.{below-same, exact}

@@ -1,22 +1,14 @@
 -- The laws of `Does`, which go along the code's path: a return of a routine is proved by a term that mirrors the steps taken to it.
 -- Each law's last premise is about what is left of the process. Assumes nothing.
-use mathlib.Core.Path.{_≡_, refl, sym, ap, subst, _∙_}
-use mathlib.Core.List.{List}
+use mathlib.Core.Path.{_≡_, refl, sym, subst, _∙_}
 use mathlib.Core.Bool.{Bool, true, false}
-use Prim.Native.Nat.{ℕ, zero, suc, _+_, _-_, _<_}
-use native.Mathlib.Omega.{arith}
+use Prim.Native.Nat.{ℕ, zero, suc, _+_, _-_, _≤_, _<_}
 use native.Mathlib.Numerals.{sub-one}
+use lib.Dec.{ltb}
 use borrow.Author.Tests.{lt-ltb, le-ltb}
 use Rattle.characters.specs.declared.place.Place.{Place}
 use Rattle.characters.specs.declared.refusal.Refusal.{Refusal}
-use Rattle.characters.specs.declared.refusal.Refusal.the-variants.{
-  TooLong,
-  BadNesting,
-  NotUtf8,
-  TooDeep,
-  PoolFull,
-  TooManyComparisons,
-}
+use Rattle.characters.specs.declared.refusal.Refusal.the-variants.{TooLong, BadNesting, NotUtf8, TooDeep, PoolFull, TooManyComparisons}
 use Rattle.characters.specs.declared.tokens.Look.{Look}
 use Rattle.characters.specs.declared.tokens.Look.the-variants.{Found, Missing, Halted}
 use Rattle.characters.specs.declared.tokens.Must.{Must}
@@ -25,66 +17,74 @@ use Rattle.reading.specs.declared.node.Node.{Node}
 use Rattle.reading.specs.declared.tally.Tally.{Tally}
 use Rattle.reading.specs.declared.answer.Out.{Out}
 use Rattle.reading.specs.declared.answer.Out.the-variants.{Read, Refused}
-use Rattle.reading.specs.Events.{
-  Rec,
-  recorded,
-  compared,
-  numbered,
-  Done,
-  Stop,
-  Outcome,
-  ended,
-  recordsOf,
-  start,
-  step,
-  steps,
-}
-use Rattle.reading.specs.Limits.{Limits, limited, room, guarded}
-use Rattle.reading.specs.Process.{
-  Process,
-  done,
-  stop,
-  make,
-  compare,
-  fresh,
-  call,
-  test,
-  look,
-  must,
-  bind,
-  Grammar,
-  nodeOf,
-  plain,
-  under,
-  run,
-  outside,
-  reading,
-}
+use Rattle.reading.specs.Events.{Rec, recorded, compared, records, comparisons, Done, Stop, Outcome, ended, recordsOf, start, withRecord, withComparison, withId, steps}
+use Rattle.reading.specs.Limits.{limited, verdict, judged, guarded}
+use Rattle.reading.specs.Process.{Process, done, stop, make, compare, fresh, call, test, look, must, bind, Grammar, nodeOf, plain, under, run, outside, reading}
+use Rattle.reading.specs.Answers.{Tells}
 use Rattle.reading.specs.Entry.{Opening, permitted, nowhere}
 use Rattle.reading.specs.Says.{Layout, laid, Says, Does, Makes, Compares, Calls}
-use Rattle.reading.specs.Laws.Entry.{entry-long, entry-nesting, entry-unsound, entry-open}
-use Rattle.reading.specs.Laws.Says.{says-ended, says-bind, says-bind-stop, says-deep, says-level, says-compared}
+use Rattle.reading.specs.Laws.Entry.{permitted-by, not-zero, not-over, entry-long, entry-nesting, entry-unsound, entry-open}
+use Rattle.reading.specs.Laws.Says.{refused-read, says-ended, says-bind, says-bind-stop, says-deep, says-level, says-compared}
 
 -- A leaf that makes a record: there is room, or there is none.
 pub makes-one : {M : Type 0} {w : Layout M} {cap : ℕ} {t : Tally} {p : Place} {rec : Rec} {v : ℕ} {A : M} → t .records < cap
-    → Makes w cap t p rec v (Read p (nodeOf t rec v) (step (recorded rec p) t)) A (w A (t .records) rec)
+    → Makes w cap t p rec v (Read p (nodeOf t rec v) (withRecord t)) A (w A (t .records) rec)
 unfolding guarded steps recordsOf laid
 makes-one {cap = cap} {t = t} h = record { says = λ nest comps. rw (lt-ltb (t .records) cap h) (record { tells = refl; pool = refl }) }
 
-pub makes-none : {M : Type 0} {w : Layout M} {cap : ℕ} {t : Tally} {p : Place} {rec : Rec} {v : ℕ} {A : M} → (t .records < cap → ⊥)
+pub makes-none : {M : Type 0} {w : Layout M} {cap : ℕ} {t : Tally} {p : Place} {rec : Rec} {v : ℕ} {A : M} → cap ≤ t .records
     → Makes w cap t p rec v (Refused PoolFull p t) A A
 unfolding guarded steps recordsOf laid
-makes-none {cap = cap} {t = t} h = record { says = λ nest comps. rw (le-ltb (t .records) cap (omega arith)) (record { tells = refl; pool = refl }) }
+makes-none {cap = cap} {t = t} h = record { says = λ nest comps. rw (le-ltb (t .records) cap h) (record { tells = refl; pool = refl }) }
 
 -- A leaf that counts a comparison: there is room, or there is none.
 pub compares-one : {comps : ℕ} {t : Tally} {p : Place} → t .comparisons < comps
-    → Compares comps t p (Read p (plain 0 p) (step (compared p) t))
+    → Compares comps t p (Read p (plain 0 p) (withComparison t))
 unfolding guarded steps
 compares-one {comps} {t} h = record { tells = λ nest cap. rw (lt-ltb (t .comparisons) comps h) }
 
-pub compares-none : {comps : ℕ} {t : Tally} {p : Place} → (t .comparisons < comps → ⊥) → Compares comps t p (Refused TooManyComparisons p t)
+pub compares-none : {comps : ℕ} {t : Tally} {p : Place} → comps ≤ t .comparisons → Compares comps t p (Refused TooManyComparisons p t)
 unfolding guarded steps
-compares-none {comps} {t} h = record { tells = λ nest cap. rw (le-ltb (t .comparisons) comps (omega arith)) }
+compares-none {comps} {t} h = record { tells = λ nest cap. rw (le-ltb (t .comparisons) comps h) }
+
+-- What a leaf's answer was, where it made a record.
+pub record Made {M : Type 0} (w : Layout M) (t : Tally) (p : Place) (rec : Rec) (v : ℕ) (q : Place) (n : Node) (u : Tally) (A B : M) : Type 0 where
+  pub place : q ≡ p
+  pub node : n ≡ nodeOf t rec v
+  pub tally : u ≡ withRecord t
+  pub pool : B ≡ w A (t .records) rec
+
+pub made : {M : Type 0} {w : Layout M} {cap : ℕ} {t : Tally} {p : Place} {rec : Rec} {v : ℕ} {r : Out} {A B : M} {q : Place} {n : Node} {u : Tally}
+    → Makes w cap t p rec v r A B → r ≡ Read q n u → Made w t p rec v q n u A B
+unfolding guarded steps recordsOf laid
+made {w = w} {cap = cap} {t = t} {p = p} {rec = rec} {v = v} {r = r} {A = A} {B = B} {q = q} {n = n} {u = u} h e =
+    go (ltb (t .records) cap) (h .says 0 0 .tells) (h .says 0 0 .pool)
+  where
+    out : Bool → Outcome
+    out b = judged (verdict b records p) (recorded rec p) (ended (Done p (nodeOf t rec v)))
+
+    go : (b : Bool) → Tells (out b .end) (steps (out b .events) t) r → B ≡ laid w A (t .records) (recordsOf (out b .events))
+        → Made w t p rec v q n u A B
+    go true x y = record { place = cc; node = cc; tally = cc; pool = y }
+    go false x y = absurd (refused-read (sym x ∙ e))
+
+-- And where it counted a comparison.
+pub record CountedOne (t : Tally) (p : Place) (q : Place) (n : Node) (u : Tally) : Type 0 where
+  pub place : q ≡ p
+  pub node : n ≡ plain 0 p
+  pub tally : u ≡ withComparison t
+
+pub counted : {comps : ℕ} {t : Tally} {p : Place} {r : Out} {q : Place} {n : Node} {u : Tally} → Compares comps t p r → r ≡ Read q n u
+    → CountedOne t p q n u
+unfolding guarded steps
+counted {comps} {t} {p} {r} {q} {n} {u} h e = go (ltb (t .comparisons) comps) (h .tells 0 0)
+  where
+    out : Bool → Outcome
+    out b = judged (verdict b comparisons p) (compared p) (ended (Done p (plain 0 p)))
+
+    go : (b : Bool) → Tells (out b .end) (steps (out b .events) t) r → CountedOne t p q n u
+    go true x = record { place = cc; node = cc; tally = cc }
+    go false x = absurd (refused-read (sym x ∙ e))
 
 module _ {M N : Type 0} {w : Layout M} {G : Grammar N} {cap comps left : ℕ} where
   -- done and stop
@@ -107,7 +107,7 @@ module _ {M N : Type 0} {w : Layout M} {G : Grammar N} {cap comps left : ℕ} wh
   by-compare {t} {p} {r} {A} h = record { says = λ d nest. says-compared w nest cap comps t p r A h }
 
   pub by-fresh : {t : Tally} {p : Place} {A : M}
-      → Does w G cap comps left t (fresh p) (Read p (plain (t .ids + 1) p) (step (numbered p) t)) A A
+      → Does w G cap comps left t (fresh p) (Read p (plain (t .ids + 1) p) (withId t)) A A
   unfolding under steps recordsOf laid
   by-fresh = record { says = λ d nest. record { tells = refl; pool = refl } }
 
@@ -134,7 +134,7 @@ module _ {M N : Type 0} {w : Layout M} {G : Grammar N} {cap comps left : ℕ} wh
 
   -- an id, as the code was given it
   pub given : {t u : Tally} {i : ℕ} {k : Place → Node → Process N} {p : Place} {r : Out} {A B : M} → i ≡ t .ids + 1
-      → u ≡ step (numbered p) t
+      → u ≡ withId t
       → Does w G cap comps left u (k p (plain i p)) r A B → Does w G cap comps left t (bind (fresh p) k) r A B
   given {t} {u} {i} {k} {p} {r} {A} {B} e f h =
       let h′ = subst (λ (j : ℕ). Does w G cap comps left u (k p (plain j p)) r A B) e h in
@@ -205,24 +205,31 @@ module _ {M N : Type 0} {w : Layout M} {G : Grammar N} {P : Process N} {o : Open
   call-long {A} s =
       record { says = rw (entry-long G P o (limited nest cap comps) s) (says-ended w (Stop TooLong nowhere) start (Refused TooLong nowhere start) A refl) }
 
-  pub call-nesting : {A : M} → o .short ≡ true → permitted (limited nest cap comps) ≡ false
+  refused-nesting : {A : M} → o .short ≡ true → permitted (limited nest cap comps) ≡ false
       → Calls w G P o nest cap comps (Refused BadNesting nowhere start) A A
-  call-nesting {A} s n =
+  refused-nesting {A} s n =
       record { says = rw (entry-nesting G P o (limited nest cap comps) s n) (says-ended w (Stop BadNesting nowhere) start (Refused BadNesting nowhere start) A refl) }
 
-  pub call-unsound : {A : M} → o .short ≡ true → permitted (limited nest cap comps) ≡ true → o .sound ≡ false
+  pub call-zero : {A : M} → o .short ≡ true → nest < 1 → Calls w G P o nest cap comps (Refused BadNesting nowhere start) A A
+  call-zero s n = refused-nesting s (not-zero (limited nest cap comps) n)
+
+  pub call-over : {A : M} → o .short ≡ true → 256 < nest → Calls w G P o nest cap comps (Refused BadNesting nowhere start) A A
+  call-over s n = refused-nesting s (not-over (limited nest cap comps) n)
+
+  pub call-unsound : {A : M} → o .short ≡ true → 1 ≤ nest → nest ≤ 256 → o .sound ≡ false
       → Calls w G P o nest cap comps (Refused NotUtf8 (o .prefix) start) A A
-  call-unsound {A} s n u =
+  call-unsound {A} s a b u =
       record {
         says =
-            rw (entry-unsound G P o (limited nest cap comps) s n u)
+            rw (entry-unsound G P o (limited nest cap comps) s (permitted-by (limited nest cap comps) a b) u)
             (says-ended w (Stop NotUtf8 (o .prefix)) start (Refused NotUtf8 (o .prefix) start) A refl);
       }
 
-  pub call-read : {r : Out} {A B : M} → o .short ≡ true → permitted (limited nest cap comps) ≡ true → o .sound ≡ true
-      → Does w G cap comps nest start P r A B
-      → Calls w G P o nest cap comps r A B
+  -- The record limit that the code was given is this one.
+  pub call-read : {k : ℕ} {r : Out} {A B : M} → k ≡ cap → o .short ≡ true → 1 ≤ nest → nest ≤ 256 → o .sound ≡ true
+      → Does w G k comps nest start P r A B → Calls w G P o nest cap comps r A B
   unfolding reading
-  call-read {r} {A} {B} s n u d =
-      let z : Says w (reading G (limited nest cap comps) P) start r A B = d .says outside nest in
-      record { says = rw (entry-open G P o (limited nest cap comps) s n u) z }
+  call-read {k} {r} {A} {B} e s a b u d =
+      let d′ : Does w G cap comps nest start P r A B = subst (λ (x : ℕ). Does w G x comps nest start P r A B) e d in
+      let z : Says w (reading G (limited nest cap comps) P) start r A B = d′ .says outside nest in
+      record { says = rw (entry-open G P o (limited nest cap comps) s (permitted-by (limited nest cap comps) a b) u) z }

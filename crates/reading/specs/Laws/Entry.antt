@@ -4,32 +4,16 @@ use mathlib.Core.Logic.{_↔_}
 use mathlib.Core.List.{List, []}
 use mathlib.Core.Bool.{Bool, true, false, _&&_}
 use Prim.Native.Nat.{ℕ, _≤_, _<_}
-use native.Mathlib.Omega.{arith}
 use lib.Dec.{leb}
 use borrow.Author.Tests.{le-leb, lt-leb}
 use Rattle.characters.specs.declared.place.Place.{Place}
 use Rattle.characters.specs.declared.refusal.Refusal.the-variants.{TooLong, BadNesting, NotUtf8}
 use Rattle.characters.specs.Refusals.{numberOf}
-use Rattle.reading.specs.Events.{
-  Which,
-  levels,
-  records,
-  comparisons,
-  Rec,
-  End,
-  Done,
-  Stop,
-  Crossed,
-  Spent,
-  Outcome,
-  ended,
-  recordsOf,
-  start,
-}
+use Rattle.reading.specs.Events.{Which, levels, Rec, End, Done, Stop, Crossed, Spent, ended, recordsOf, start}
 use Rattle.reading.specs.Limits.{Limits, cut}
 use Rattle.reading.specs.Process.{Process, Grammar, reading, unlimited}
 use Rattle.reading.specs.Answers.{refusalOf, endNumber}
-use Rattle.reading.specs.Demands.{Below, byLimit, Grows, Inside, Crosses, Counted, AllEarlier}
+use Rattle.reading.specs.Demands.{Below, byLimit, Grows, Crosses, Counted, AllEarlier}
 use Rattle.reading.specs.Suits.{Choice, AllFine, Suits}
 use Rattle.reading.specs.Entry.{Opening, permitted, nowhere, gated, opened, entry}
 use Rattle.reading.specs.Laws.Grows.{grows-same, reading-grows}

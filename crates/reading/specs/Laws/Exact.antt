@@ -6,75 +6,15 @@ use mathlib.Core.List.{List, [], _∷_}
 use mathlib.Core.Bool.{Bool, true, false}
 use Prim.Native.Nat.{ℕ, zero, suc, _+_, _≤_, _<_}
 use native.Mathlib.Omega.{arith}
-use lib.Dec.{ltb, leb}
 use borrow.Author.Tests.{ltb-true, lt-ltb, leb-true, le-leb, lt-leb}
 use Rattle.characters.specs.declared.place.Place.{Place}
 use Rattle.characters.specs.declared.tokens.Look.the-variants.{Found, Missing, Halted}
 use Rattle.characters.specs.declared.tokens.Must.the-variants.{Taken, Failed}
 use Rattle.reading.specs.declared.node.Node.{Node}
 use Rattle.reading.specs.declared.tally.Tally.{Tally}
-use Rattle.reading.specs.Events.{
-  Event,
-  entered,
-  recorded,
-  compared,
-  numbered,
-  Which,
-  levels,
-  records,
-  comparisons,
-  End,
-  Done,
-  Stop,
-  Crossed,
-  Spent,
-  Outcome,
-  ended,
-  cons,
-  start,
-  step,
-  steps,
-}
-use Rattle.reading.specs.Limits.{
-  Bound,
-  upto,
-  none,
-  Limits,
-  free,
-  room,
-  Verdict,
-  goes,
-  over,
-  verdict,
-  judge,
-  judged,
-  guarded,
-  cutting,
-  cut,
-}
-use Rattle.reading.specs.Process.{
-  Process,
-  done,
-  stop,
-  spent,
-  make,
-  compare,
-  fresh,
-  call,
-  test,
-  look,
-  must,
-  bind,
-  Grammar,
-  nodeOf,
-  plain,
-  joined,
-  after,
-  under,
-  run,
-  outside,
-  reading,
-}
+use Rattle.reading.specs.Events.{Event, entered, recorded, compared, numbered, Which, levels, records, comparisons, End, Done, Stop, Crossed, Spent, Outcome, ended, cons, start, step, steps}
+use Rattle.reading.specs.Limits.{Bound, upto, none, Limits, free, room, Verdict, goes, over, verdict, judge, judged, guarded, cutting, cut}
+use Rattle.reading.specs.Process.{Process, done, stop, spent, make, compare, fresh, call, test, look, must, bind, Grammar, nodeOf, plain, joined, after, under, run, outside, reading}
 use Rattle.reading.specs.Demands.{_⊑_, Below}
 
 -- A bound that is no lower has room where the first has.

@@ -4,26 +4,11 @@ use mathlib.Core.Path.{_≡_, refl, sym, ap, subst, _∙_}
 use mathlib.Core.Logic.{_⊎_, inl, inr}
 use mathlib.Core.List.{List, [], _∷_, _++_, append-nil}
 use mathlib.Core.Bool.{Bool, true, false}
-use Prim.Native.Nat.{ℕ, suc, _+_, _≤_, max}
+use Prim.Native.Nat.{_≤_}
 use native.Mathlib.Omega.{arith}
 use lib.ListN.{length, length-append}
 use Rattle.reading.specs.declared.tally.Tally.{Tally}
-use Rattle.reading.specs.Events.{
-  Rec,
-  Event,
-  entered,
-  recorded,
-  compared,
-  numbered,
-  End,
-  Outcome,
-  cons,
-  recordsOf,
-  comparisonsOf,
-  deepest,
-  start,
-  step,
-}
+use Rattle.reading.specs.Events.{Rec, Event, entered, recorded, compared, numbered, End, Outcome, cons, recordsOf, comparisonsOf, deepest, start, step}
 use Rattle.reading.specs.Limits.{Limits, Verdict, goes, over, judge, judged, cutting, cut}
 use Rattle.reading.specs.Process.{Process, Grammar, reading}
 use Rattle.reading.specs.Demands.{Below, byLimit, Opens, Grows}

@@ -13,22 +13,7 @@ use Rattle.characters.specs.declared.tokens.Must.{Must}
 use Rattle.characters.specs.declared.tokens.Must.the-variants.{Taken, Failed}
 use Rattle.reading.specs.declared.node.Node.{Node}
 use Rattle.reading.specs.Events.{Rec}
-use Rattle.reading.specs.Process.{
-  Process,
-  done,
-  stop,
-  spent,
-  make,
-  compare,
-  fresh,
-  call,
-  test,
-  look,
-  must,
-  bind,
-  nodeAs,
-  plain,
-}
+use Rattle.reading.specs.Process.{Process, done, stop, spent, make, compare, fresh, call, test, look, must, bind, nodeAs, plain}
 use Rattle.reading.specs.Suits.{proper, Since, With, Claim, Choice, Meets}
 use Rattle.reading.specs.Laws.Suits.{since-same, since-with, since-trans}
 

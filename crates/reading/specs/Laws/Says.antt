@@ -2,49 +2,19 @@
 -- since an outcome holds only the records that are new. Assumes nothing.
 use mathlib.Core.Path.{_≡_, refl, sym, ap, subst, _∙_}
 use mathlib.Core.List.{List, [], _∷_, _++_}
-use mathlib.Core.Bool.{Bool, true, false}
-use Prim.Native.Nat.{ℕ, zero, suc, _+_}
+use Prim.Native.Nat.{ℕ, suc, _+_}
 use native.Mathlib.Omega.{arith}
 use lib.ListN.{length}
 use Rattle.characters.specs.declared.place.Place.{Place}
 use Rattle.characters.specs.declared.refusal.Refusal.{Refusal}
-use Rattle.characters.specs.declared.refusal.Refusal.the-variants.{TooDeep, PoolFull, TooManyComparisons}
+use Rattle.characters.specs.declared.refusal.Refusal.the-variants.{TooDeep}
 use Rattle.reading.specs.declared.node.Node.{Node}
 use Rattle.reading.specs.declared.tally.Tally.{Tally}
 use Rattle.reading.specs.declared.answer.Out.{Out}
 use Rattle.reading.specs.declared.answer.Out.the-variants.{Read, Refused}
-use Rattle.reading.specs.Events.{
-  Rec,
-  Event,
-  recorded,
-  compared,
-  numbered,
-  End,
-  Done,
-  Stop,
-  Crossed,
-  Spent,
-  Outcome,
-  ended,
-  recordsOf,
-  comparisonsOf,
-  start,
-  step,
-  steps,
-}
-use Rattle.reading.specs.Limits.{Limits, limited, room, Verdict, goes, over, judge, judged, guarded}
-use Rattle.reading.specs.Process.{
-  Process,
-  bind,
-  Grammar,
-  nodeOf,
-  plain,
-  joined,
-  making,
-  comparing,
-  under,
-  run,
-}
+use Rattle.reading.specs.Events.{Rec, Event, compared, End, Done, Stop, Crossed, Spent, Outcome, ended, recordsOf, comparisonsOf, start, steps}
+use Rattle.reading.specs.Limits.{Limits, limited, Verdict, goes, over, judge, judged, guarded}
+use Rattle.reading.specs.Process.{Process, bind, Grammar, plain, joined, making, comparing, under, run}
 use Rattle.reading.specs.Answers.{answerOf, answerFrom, Tells}
 use Rattle.reading.specs.Says.{Layout, laid, Says, Makes, Compares}
 use Rattle.reading.specs.Laws.Grows.{records-append}
@@ -63,10 +33,10 @@ unfolding steps recordsOf laid
 says-ended w e t r A h = record { tells = h; pool = refl }
 
 -- No answer is two things.
-read-refused : {p q : Place} {n : Node} {k : Refusal} {t u : Tally} → Read p n t ≡ Refused k q u → ⊥
+pub read-refused : {p q : Place} {n : Node} {k : Refusal} {t u : Tally} → Read p n t ≡ Refused k q u → ⊥
 read-refused e = let z : _≡_ {A = ℕ} 0 1 = cc in omega arith
 
-refused-read : {p q : Place} {n : Node} {k : Refusal} {t u : Tally} → Refused k q u ≡ Read p n t → ⊥
+pub refused-read : {p q : Place} {n : Node} {k : Refusal} {t u : Tally} → Refused k q u ≡ Read p n t → ⊥
 refused-read e = let z : _≡_ {A = ℕ} 0 1 = cc in omega arith
 
 module _ {M : Type 0} (w : Layout M) where
@@ -153,6 +123,17 @@ tells-unique (Spent p) t r r′ a b = absurd a
 pub says-unique : {M : Type 0} (w : Layout M) (o : Outcome) (t : Tally) (r r′ : Out) (A B B′ : M) → Says w o t r A B → Says w o t r′ A B′
     → (r ≡ r′) × (B ≡ B′)
 says-unique w o t r r′ A B B′ s s′ = (tells-unique (o .end) (steps (o .events) t) r r′ (s .tells) (s′ .tells), s .pool ∙ sym (s′ .pool))
+
+-- The same of the two leaves.
+pub makes-unique : {M : Type 0} {w : Layout M} {cap : ℕ} {t : Tally} {p : Place} {rec : Rec} {v : ℕ} {r r′ : Out} {A B B′ : M}
+    → Makes w cap t p rec v r A B → Makes w cap t p rec v r′ A B′ → (r ≡ r′) × (B ≡ B′)
+makes-unique {w = w} {cap = cap} {t = t} {p = p} {rec = rec} {v = v} {r = r} {r′ = r′} {A = A} {B = B} {B′ = B′} h k =
+    says-unique w (making (limited 0 cap 0) t p rec v) t r r′ A B B′ (h .says 0 0) (k .says 0 0)
+
+pub compares-unique : {comps : ℕ} {t : Tally} {p : Place} {r r′ : Out} → Compares comps t p r → Compares comps t p r′ → r ≡ r′
+compares-unique {comps} {t} {p} {r} {r′} h k =
+    let o : Outcome = comparing (limited 0 0 comps) t p in
+    tells-unique (o .end) (steps (o .events) t) r r′ (h .tells 0 0) (k .tells 0 0)
 
 -- What the caller is told, of code that answers for a whole reading.
 pub says-answer : {M : Type 0} (w : Layout M) (o : Outcome) (r : Out) (A B : M) → Says w o start r A B → answerFrom r ≡ answerOf o

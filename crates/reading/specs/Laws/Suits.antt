@@ -3,7 +3,7 @@
 -- which the measure stays below. Assumes nothing.
 use mathlib.Core.Path.{_≡_, refl, sym, ap, subst, _∙_}
 use mathlib.Core.List.{List, [], _∷_, _++_, append-nil, append-assoc}
-use mathlib.Core.Bool.{Bool, true, false}
+use mathlib.Core.Bool.{true, false}
 use Prim.Native.Nat.{ℕ, zero, suc, _+_, _≤_, _<_}
 use native.Mathlib.Omega.{arith}
 use lib.Dec.{T}
@@ -13,38 +13,9 @@ use Rattle.characters.specs.declared.tokens.Look.the-variants.{Found, Missing, 
 use Rattle.characters.specs.declared.tokens.Must.the-variants.{Taken, Failed}
 use Rattle.reading.specs.declared.node.Node.{Node}
 use Rattle.reading.specs.declared.tally.Tally.{Tally}
-use Rattle.reading.specs.Events.{
-  Rec,
-  Event,
-  End,
-  Done,
-  Stop,
-  Crossed,
-  Spent,
-  Outcome,
-  recordsOf,
-  steps,
-}
+use Rattle.reading.specs.Events.{Rec, Event, End, Done, Stop, Crossed, Spent, Outcome, recordsOf, steps}
 use Rattle.reading.specs.Limits.{free}
-use Rattle.reading.specs.Process.{
-  Process,
-  done,
-  stop,
-  spent,
-  make,
-  compare,
-  fresh,
-  call,
-  test,
-  look,
-  must,
-  bind,
-  Grammar,
-  nodeAs,
-  joined,
-  under,
-  run,
-}
+use Rattle.reading.specs.Process.{Process, done, stop, spent, make, compare, fresh, call, test, look, must, bind, Grammar, nodeAs, joined, under, run}
 use Rattle.reading.specs.Suits.{proper, Since, With, Claim, Choice, Meets, AllFine}
 use Rattle.reading.specs.Laws.Grows.{records-append}
 use Rattle.reading.specs.Laws.Counts.{tally-records}

@@ -12,27 +12,12 @@ use borrow.Author.Tests.{leb-true, eqb-true}
 use Rattle.characters.specs.declared.place.Place.{Place}
 use Rattle.characters.specs.declared.refusal.Refusal.{Refusal}
 use Rattle.characters.specs.Refusals.{numberOf}
-use Rattle.reading.specs.Events.{
-  Rec,
-  Event,
-  Which,
-  levels,
-  records,
-  comparisons,
-  End,
-  Done,
-  Stop,
-  Crossed,
-  Spent,
-  Outcome,
-  recordsOf,
-  start,
-}
+use Rattle.reading.specs.Events.{Rec, Event, Which, levels, records, comparisons, End, Done, Stop, Crossed, Spent, Outcome, recordsOf, start}
 use Rattle.reading.specs.Limits.{Limits, free, cut}
-use Rattle.reading.specs.Process.{Process, Grammar, under, run, outside, reading, unlimited}
+use Rattle.reading.specs.Process.{Process, Grammar, outside, reading, unlimited}
 use Rattle.reading.specs.Answers.{refusalOf, endNumber}
 use Rattle.reading.specs.Demands.{byLimit, Inside, Crosses, AllEarlier}
-use Rattle.reading.specs.Suits.{proper, Claim, Choice, AllFine, Suits, Proper}
+use Rattle.reading.specs.Suits.{proper, Choice, AllFine, Suits, Proper}
 use Rattle.reading.specs.Laws.Exact.{below-free, exact}
 use Rattle.reading.specs.Laws.Grows.{Agree, cut-agrees, records-append, reading-grows}
 use Rattle.reading.specs.Laws.Crosses.{cut-inside, cut-exactly}

@@ -1,5 +1,5 @@
 -- `Out::answer` is `answerFrom`: each arm knows which case it is in, and computes. Assumes nothing.
-use mathlib.Core.Path.{_≡_, sym, ap, _∙_}
+use mathlib.Core.Path.{sym, ap}
 use borrow.Author.Needs.{needs}
 use Rattle.reading.specs.Answers.{answerFrom}
 use Rattle.reading.proofs.answer.Out.answer.Statement.{statement}

@@ -1,0 +1,6 @@
+pub mod Promises
+pub mod Kinds
+pub mod Words
+pub mod Rows
+pub mod Laws
+pub mod Examples

@@ -5,6 +5,7 @@ use crate::place::Place;
 use crate::place::byte;
 use crate::refusal::Refusal;
 ghost use mathlib.Core.Path.{_≡_};
+ghost use mathlib.Core.List.{[], _∷_};
 ghost use Prim.Native.Nat.{_≤_};
 ghost use lib.ListN.{drop, length};
 ghost use Rattle.characters.specs.Text.{Stands};
@@ -97,6 +98,45 @@ pub fn expect(text: &[u8], at: Place, w: &[u8]) -> Must
     ensures { λ r. ⌜ r ≡ expected (now (text .entry)) at (now (w .entry)) ⌝ }
 {
     let look = token(text, at, w);
+    match look {
+        Look::Found { here, next } => Must::Taken { here, next },
+        Look::Missing { here } => Must::Failed {
+            refusal: Refusal::ExpectedToken,
+            at: here,
+        },
+        Look::Halted { refusal, at: q } => Must::Failed { refusal, at: q },
+    }
+}
+
+// The token of the one byte `b` past the blanks: no word to walk.
+pub fn sign(text: &[u8], at: Place, b: u8) -> Look
+    requires { ⌜ Stands (now text) at ⌝ }
+    ensures { λ r. ⌜ r ≡ token (now (text .entry)) at (b ∷ []) ⌝ }
+{
+    let blanks = skip(text, at);
+    match blanks {
+        Must::Failed { refusal, at: q } => Look::Halted { refusal, at: q },
+        Must::Taken { here: _, next } => {
+            let wanted = b as u32;
+            let stands = byte(text, next.offset);
+            if stands != wanted {
+                return Look::Missing { here: next };
+            }
+            let after = next.on(1);
+            Look::Found {
+                here: next,
+                next: after,
+            }
+        }
+    }
+}
+
+// The token of the one byte `b` past the blanks, or 10.
+pub fn need(text: &[u8], at: Place, b: u8) -> Must
+    requires { ⌜ Stands (now text) at ⌝ }
+    ensures { λ r. ⌜ r ≡ expected (now (text .entry)) at (b ∷ []) ⌝ }
+{
+    let look = sign(text, at, b);
     match look {
         Look::Found { here, next } => Must::Taken { here, next },
         Look::Missing { here } => Must::Failed {

@@ -1,0 +1,2 @@
+pub mod Sizing
+pub mod Finding

@@ -1,0 +1,7 @@
+mod Steps
+mod Leads
+mod Leafing
+mod Walking
+mod Atomic
+mod Links
+mod Chains

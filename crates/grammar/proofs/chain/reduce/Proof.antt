@@ -1,0 +1,100 @@
+-- `reduce` goes with the rule, one binary at a time. Assumes nothing.
+use Rattle.grammar.proofs.Chains.{Reducing, reducing-starts, reducing-on, reduced-full, reduced-empty, reduced-top}
+use Rattle.records.specs.Laws.Rows.{lent-kept}
+use mathlib.Core.Path.{_∙_}
+use borrow.Author.Needs.{needs}
+use Rattle.grammar.proofs.chain.reduce.Statement.{statement}
+use Rattle.grammar.proofs.chain.reduce.Tie as tie
+use Rattle.grammar.proofs.chain.reduce.Reads as reads
+use Rattle.grammar.proofs.chain.reduce.Lts as lts
+use Rattle.grammar.proofs.chain.join.Reads as join-reads
+use Rattle.grammar.proofs.operators.strength_of.Reads as strength-of-reads
+
+abbrev Inv-loop : tie.InvT-loop
+Inv-loop pool₀ cap at new chain len₀ node₀ tally₀ pool len node tally = Reducing cap new at chain pool₀ node₀ tally₀ pool len node tally
+
+abbrev μ-loop : tie.MeasureT-loop
+μ-loop pool₀ cap at new chain len₀ node₀ tally₀ pool len node tally = len
+
+loop-holds : tie.Need-loop-holds Inv-loop μ-loop
+loop-holds c = reducing-starts _ _ _ _ _ _ _ (c .before .pre .1)
+
+sub-last : tie.Need-sub-last Inv-loop μ-loop
+sub-last c = search needs
+
+cast-i : tie.Need-cast-i Inv-loop μ-loop
+cast-i c = search needs
+
+mul-op : tie.Need-mul-op Inv-loop μ-loop
+mul-op c = search needs
+
+element-copy-out-op : tie.Need-element-copy-out-op Inv-loop μ-loop
+element-copy-out-op c = search needs
+
+strength-of-requires : tie.Need-strength-of-requires Inv-loop μ-loop
+strength-of-requires c κs = search needs
+
+mul-left : tie.Need-mul-left Inv-loop μ-loop
+mul-left c = search needs
+
+element-copy-out-left : tie.Need-element-copy-out-left Inv-loop μ-loop
+element-copy-out-left c = search needs
+
+join-requires : tie.Need-join-requires Inv-loop μ-loop
+join-requires c κs = lent-kept (c .before .before .before .before .before .before .before .before .pre .0) (c .before .before .before .before .before .before .loop .inv .same)
+
+enum-told : tie.Need-enum-told Inv-loop μ-loop
+enum-told c = search needs
+
+same-length : tie.Need-same-length Inv-loop μ-loop
+same-length c = search needs
+
+returns : tie.Need-returns Inv-loop μ-loop
+returns c = reduced-full (c .before .before .before .before .before .before .before .before .before .before .before .loop .inv) (c .before .before .before .before .before .before .before .before .before .before .loop-test .taken) (c .before .before .before .before .before .before .before .before .strength-of .ensures) (c .before .before .before .before .before .before .before .if1 .left) (c .before .before .before .before .join .ensures) (c .enum-told .given .1) (lent-kept (c .before .before .before .before .before .before .before .before .before .before .before .before .before .pre .0) (c .before .before .before .before .join .kept .0 ∙ c .before .before .before .before .before .before .before .before .before .before .before .loop .inv .same))
+
+enum-known-made : tie.Need-enum-known-made Inv-loop μ-loop
+enum-known-made c = search needs
+
+loop-less : tie.Need-loop-less Inv-loop μ-loop
+loop-less c = search needs
+
+loop-again : tie.Need-loop-again Inv-loop μ-loop
+loop-again c = reducing-on (c .before .before .before .before .before .before .before .before .before .before .before .before .loop .inv) (c .before .before .before .before .before .before .before .before .before .before .before .loop-test .taken) (c .before .before .before .before .before .before .before .before .before .strength-of .ensures) (c .before .before .before .before .before .before .before .before .if1 .left) (c .before .before .before .before .before .join .ensures) (c .before .made .given .1) (c .before .before .before .before .before .join .kept .0)
+
+same-length-2 : tie.Need-same-length-2 Inv-loop μ-loop
+same-length-2 c = search needs
+
+returns-2 : tie.Need-returns-2 Inv-loop μ-loop
+returns-2 c = reduced-empty (c .before .loop .inv) (c .loop-test .left) (lent-kept (c .before .before .before .pre .0) (c .before .loop .inv .same))
+
+same-length-3 : tie.Need-same-length-3 Inv-loop μ-loop
+same-length-3 c = search needs
+
+returns-3 : tie.Need-returns-3 Inv-loop μ-loop
+returns-3 c = reduced-top (c .before .before .before .before .loop .inv) (c .before .before .before .loop-test .taken) (c .before .strength-of .ensures) (c .if1 .taken) (lent-kept (c .before .before .before .before .before .before .pre .0) (c .before .before .before .before .loop .inv .same))
+
+pub reduce-spec : {M : Type 1} → statement M
+reduce-spec =
+    tie.close
+    (tie.spec
+    Inv-loop
+    μ-loop
+    loop-holds
+    sub-last
+    cast-i
+    mul-op
+    element-copy-out-op
+    strength-of-requires
+    mul-left
+    element-copy-out-left
+    join-requires
+    enum-told
+    same-length
+    returns
+    enum-known-made
+    loop-less
+    loop-again
+    same-length-2
+    returns-2
+    same-length-3
+    returns-3)

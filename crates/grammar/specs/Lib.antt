@@ -1,0 +1,12 @@
+pub mod Operators
+pub mod Leaves
+pub mod LeafLaws
+pub mod LinkLaws
+pub mod Expressions
+pub mod AtomLaws
+pub mod Chains
+pub mod ChainLaws
+pub mod Keys
+pub mod KeyLaws
+pub mod Contracts
+pub mod Examples

@@ -1,0 +1,81 @@
+// The keys of a dictionary: a new one is compared with those of the items before it, which stand in the pool.
+use characters::place::Place;
+use characters::refusal::Refusal;
+use literals::strings::Span;
+use literals::strings::same_key;
+use reading::answer::Out;
+use reading::node::Node;
+use reading::tally::Tally;
+use records::comparisons::count;
+ghost use mathlib.Core.Path.{_≡_};
+ghost use Prim.Native.Nat.{_*_, _≤_, _<_, _^_};
+ghost use lib.ListN.{length};
+ghost use Rattle.grammar.specs.Keys.{entryOf, keysOf, WellChained, Clashes};
+
+// What an item holds of its key: the span, and the item before it; 0 is none.
+pub struct Entry {
+    pub key: Span,
+    pub before: u32,
+}
+
+// The entry of an item of the pool.
+fn entry_at(pool: &[u32], item: u32) -> Entry
+    requires { ⌜ (1 ≤ item) × (item * 8 ≤ length (now pool)) ⌝ }
+    ensures { λ r. ⌜ r ≡ entryOf (now (pool .entry)) item ⌝ }
+{
+    let end = (item as usize) * 8;
+    let base = end - 8;
+    let link = base + 5;
+    let held = base + 6;
+    let before = pool[link];
+    let word = pool[held];
+    let from = word % 65536;
+    let to = word / 65536;
+    let key = Span { from, to };
+    Entry { key, before }
+}
+
+// A new key that ends at `at` and the keys from `last` back, "newest first, up to the first equal": each comparison is counted, and a key
+// that stands there already is 30.
+pub fn new_key(
+    text: &[u8],
+    pool: &[u32],
+    comps: u32,
+    t: Tally,
+    at: Place,
+    key: Span,
+    last: u32,
+) -> Out
+    requires { ⌜ (length (now text) < 2 ^ 31) × WellChained (now pool) last ⌝ }
+    ensures { λ r. ⌜ Clashes (now (text .entry)) comps t at key (keysOf (now (pool .entry)) last) r ⌝ }
+{
+    let mut item = last;
+    let mut tally = t;
+    loop {
+        if item == 0 {
+            let node = Node::plain(0, at);
+            return Out::Read { at, node, tally };
+        }
+        let counted = count(comps, tally, at);
+        let Out::Read {
+            at: _,
+            node: _,
+            tally: u,
+        } = counted
+        else {
+            return counted;
+        };
+        let entry = entry_at(pool, item);
+        let other = entry.key;
+        let same = same_key(text, key, other);
+        if same {
+            return Out::Refused {
+                refusal: Refusal::Duplicate,
+                at,
+                tally: u,
+            };
+        }
+        item = entry.before;
+        tally = u;
+    }
+}

@@ -1,0 +1,8 @@
+// The grammar of Plush: what stands at a place, and the leaves of its rules.
+pub mod atoms;
+pub mod chain;
+pub mod keys;
+pub mod leaves;
+pub mod operators;
+pub mod rows;
+pub mod signs;

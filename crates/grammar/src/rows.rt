@@ -1,0 +1,81 @@
+// The rows that the readers of expressions make, and the node of a list.
+use characters::place::Place;
+use literals::strings::Span;
+use reading::node::Node;
+use records::kind::Kind;
+use records::row::Row;
+use records::words::high;
+use records::words::low;
+ghost use mathlib.Core.Path.{_≡_};
+ghost use Prim.Native.Nat.{_≤_};
+ghost use Rattle.reading.specs.Entry.{nowhere};
+ghost use Rattle.grammar.specs.Leaves.{numberRow, rowOf};
+ghost use Rattle.grammar.specs.Expressions.{listNode, pairRow};
+
+// A row with a kind, a position and up to three fields.
+pub fn row(kind: Kind, position: Place, a: u32, b: u32, c: u32) -> Row
+    ensures { λ r. ⌜ r ≡ rowOf kind position a b c ⌝ }
+{
+    Row {
+        kind,
+        position,
+        a,
+        b,
+        c,
+        d: 0,
+    }
+}
+
+// An item has no position: an element and the item before it.
+pub fn item(element: u32, last: u32) -> Row
+    ensures { λ r. ⌜ r ≡ rowOf Kind.Item nowhere element last 0 ⌝ }
+{
+    let nowhere = Place {
+        offset: 0,
+        line: 0,
+        column: 0,
+    };
+    row(Kind::Item, nowhere, element, last, 0)
+}
+
+// The last item of a list and how many there are, as a node.
+pub fn listed(last: u32, count: u64, at: Place) -> Node
+    ensures { λ r. ⌜ r ≡ listNode last count at ⌝ }
+{
+    Node {
+        number: last,
+        kind: 0,
+        position: at,
+        value: count,
+    }
+}
+
+// A dictionary's item: its value, the item before it and its key.
+pub fn pair_row(element: u32, last: u32, key: Span) -> Row
+    requires { ⌜ (key .from ≤ 65535) × (key .to ≤ 65535) ⌝ }
+    ensures { λ r. ⌜ r ≡ pairRow element last key ⌝ }
+{
+    let nowhere = Place {
+        offset: 0,
+        line: 0,
+        column: 0,
+    };
+    let word = key.from + 65536 * key.to;
+    row(Kind::Pair, nowhere, element, last, word)
+}
+
+// A number literal's row: its value in two words.
+pub fn number_row(kind: Kind, position: Place, value: u64) -> Row
+    ensures { λ r. ⌜ r ≡ numberRow kind position value ⌝ }
+{
+    let a = low(value);
+    let b = high(value);
+    Row {
+        kind,
+        position,
+        a,
+        b,
+        c: 0,
+        d: 0,
+    }
+}

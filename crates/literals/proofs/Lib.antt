@@ -1,0 +1,2 @@
+mod NumberParts
+mod NumberRuns

@@ -1,0 +1,12 @@
+pub mod Numbers
+pub mod NumberLaws
+pub mod NumberSums
+pub mod NumberStable
+pub mod NumberEx
+pub mod Strings
+pub mod StringLaws
+pub mod SpellingLaws
+pub mod StringExamples
+pub mod ByteArrays
+pub mod ByteArrayLaws
+pub mod ByteArrayExamples

@@ -128,3 +128,10 @@ choice-on {s} {p} {n} {l} v e f = advanced-reached (subst (LinkOn s p) (sym e �
 
 pub operator-on : {s : Text} {p n : Place} {op : ℕ} {l : Link} → Stands s p → l ≡ linkOf s p → l ≡ Operator op n → (Advanced s p n) × (1 ≤ op) × (op ≤ 18)
 operator-on {s} {p} {n} {op} {l} v e f = subst (LinkOn s p) (sym e ∙ f) (link-on s p v)
+
+-- a token may be there
+pub colon-on : {s : Text} {p h n : Place} {l : Look} (w : Text) → Stands s p → l ≡ token s p w → l ≡ Found h n → Reached s p n
+colon-on {s} {p} {h} {n} {l} w v e f = let g = subst (TokenOn s p w) (sym e ∙ f) (token-on s p w v) in reached-on (g .0) (g .1)
+
+pub no-colon-on : {s : Text} {p h : Place} {l : Look} (w : Text) → Stands s p → l ≡ token s p w → l ≡ Missing h → Reached s p h
+no-colon-on {s} {p} {h} {l} w v e f = subst (TokenOn s p w) (sym e ∙ f) (token-on s p w v)

@@ -5,3 +5,4 @@ mod Walking
 mod Atomic
 mod Links
 mod Chains
+mod Rounds

@@ -1,6 +1,7 @@
 // The grammar of Plush: what stands at a place, and the leaves of its rules.
 pub mod atoms;
 pub mod chain;
+pub mod expressions;
 pub mod keys;
 pub mod leaves;
 pub mod operators;

@@ -3,12 +3,12 @@ use mathlib.Core.Path.{_≡_, refl}
 use mathlib.Core.List.{List, [], _∷_, _++_}
 use Prim.Native.Nat.{ℕ, _+_}
 use Rattle.characters.specs.declared.place.Place.{Place}
-use Rattle.characters.specs.Text.{Text, ascii, start, past}
+use Rattle.characters.specs.Text.{Text, ascii, next, past, start, tails}
 use Rattle.characters.specs.Blanks.{blanks, pass}
 use Rattle.characters.specs.Names.{along, name, same, numbered, wordOf}
 use Rattle.characters.specs.Tokens.{spells, token, expected}
 use Rattle.literals.specs.Numbers.{number, decimal, digits, run, pastDigits, dotted, fraction, exponentOr, exponent, whole, based, digitOf}
-use Rattle.literals.specs.Strings.{string, scan, escape, sameKey, keyOf, decode, valueIn, widthIn}
+use Rattle.literals.specs.Strings.{among, decode, escape, hexBy, keyOf, letterOf, sameKey, scan, string, valueIn, widthIn}
 use Rattle.reading.specs.declared.answer.Answer.{Answer}
 use Rattle.reading.specs.Events.{Rec, Outcome, recordsOf, comparisonsOf}
 use Rattle.reading.specs.Limits.{limited}
@@ -56,3 +56,51 @@ key-is-drawn : recordsOf (read key 64 .events)
     ∷ []
 unfolding read recordsOf
 key-is-drawn = refl
+
+-- ---- examples of document 01, each the value of its `x = ..;`: columns are less by four, records by one
+
+-- a nested choice: `a ? b : c ? d : e` "nests right"
+choice-nests-right : recordsOf (read (ascii "a ? b : c ? d : e;") 64 .events)
+    ≡ named 0 1
+    ∷ named 4 1
+    ∷ named 8 1
+    ∷ named 12 1
+    ∷ named 16 1
+    ∷ recordOf (rowOf kinds.Choice (at 8) 3 4 5)
+    ∷ recordOf (rowOf kinds.Choice (at 0) 1 2 6)
+    ∷ []
+unfolding read recordsOf
+choice-nests-right = refl
+
+-- each answer: number, line, column, records, comparisons
+answers : List Answer
+unfolding read recordsOf comparisonsOf sameKey keyOf decode valueIn widthIn letterOf among hexBy next tails
+answers =
+    answerOf (read (ascii "9223372036854775807;") 64)
+    ∷ answerOf (read (ascii "-9223372036854775808;") 64)
+    ∷ answerOf (read (ascii "0x8000000000000000;") 64)
+    ∷ answerOf (read (ascii "a ? b : c = d;") 64)
+    ∷ answerOf (read (ascii "{\"a\": 1, a: 2};") 64)
+    ∷ answerOf (read (ascii "\"\\x80\";") 64)
+    ∷ answerOf (read (ascii "a. b();") 64)
+    ∷ answerOf (read (ascii "f(1);") 1)
+    ∷ []
+
+as-document-01-says : answers
+    ≡ says 0 1 20 1 0
+    ∷ says 14 1 21 0 0
+    ∷ says 14 1 19 0 0
+    ∷ says 25 1 11 3 0
+    ∷ says 30 1 11 2 1
+    ∷ says 20 1 6 0 0
+    ∷ says 11 1 3 1 0
+    ∷ says 5 1 3 1 0
+    ∷ []
+unfolding answers
+as-document-01-says = refl
+
+-- `-(5)`: the literal, and the negated one at its position
+negated : recordsOf (read (ascii "-(5);") 64 .events)
+    ≡ recordOf (numberRow kinds.Int (at 2) 5) ∷ recordOf (numberRow kinds.Int (at 2) 18446744073709551611) ∷ []
+unfolding read recordsOf
+negated = refl

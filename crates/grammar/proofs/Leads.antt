@@ -12,7 +12,7 @@ use Rattle.characters.specs.declared.tokens.Must.{Must}
 use Rattle.characters.specs.declared.tokens.Must.the-variants.{Taken, Failed}
 use Rattle.characters.specs.Text.{Text, ascii, onBy, Stands}
 use Rattle.characters.specs.PlaceLaws.{Reached, Advanced, reached-on, advanced-on, advanced-reached}
-use Rattle.characters.specs.Tokens.{token, expected, needed}
+use Rattle.characters.specs.Tokens.{token, expected}
 use Rattle.characters.specs.TokenLaws.{TokenOn, token-on}
 use Rattle.records.specs.declared.row.Row.{Row}
 use Rattle.grammar.specs.declared.leaves.Prefix.{Prefix}
@@ -25,63 +25,22 @@ use Rattle.grammar.specs.declared.leaves.Atom.the-variants.{Leaf, Paren,
 use Rattle.grammar.specs.declared.leaves.Suffix.the-variants as suffix
 use Rattle.grammar.specs.declared.leaves.Link.{Link}
 use Rattle.grammar.specs.declared.leaves.Link.the-variants.{Choice, Operator}
-use Rattle.grammar.specs.Leaves.{prefixOf, postfixOf, closeOf, commaBy, followBy, followOf, atomOf, linkOf}
+use Rattle.grammar.specs.Leaves.{prefixOf, postfixOf, closeOf, followOf, atomOf, linkOf}
 use Rattle.grammar.specs.LeafLaws.{PrefixOn, prefix-on, PostfixOn, postfix-on, CloseOn, close-on}
 use Rattle.grammar.specs.LinkLaws.{LinkOn, link-on}
 use Rattle.grammar.specs.AtomLaws.{atom-at}
+use Rattle.grammar.specs.Leads.{ExpectedOn, expected-leads, FollowOn, follow-leads}
 use Rattle.grammar.specs.Contracts.{suffixAt}
 
 -- ---- tokens
 
-ExpectedOn : Text → Place → Must → Type 0
-ExpectedOn s p (Taken h n) = Reached s p n
-ExpectedOn s p (Failed k q) = Unit
-
-expected-leads : (s : Text) (p : Place) (w : Text) → Stands s p → ExpectedOn s p (expected s p w)
-unfolding expected ExpectedOn
-expected-leads s p w h = go (token s p w) (token-on s p w h)
-  where
-    go : (l : Look) → TokenOn s p w l → ExpectedOn s p (needed l)
-    go (Found a n) g = reached-on (g .0) (g .1)
-    go (Missing a) g = tt
-    go (Halted k q) g = tt
-
 pub taken-on : {s : Text} {p h n : Place} {l : Must} (w : Text) → Stands s p → l ≡ expected s p w → l ≡ Taken h n → Reached s p n
-unfolding ExpectedOn
 taken-on {s} {p} {h} {n} {l} w v e f = subst (ExpectedOn s p) (sym e ∙ f) (expected-leads s p w v)
 
--- a token of one byte is gone over
-token-byte : (s : Text) (p : Place) (b : ℕ) {h n : Place} → TokenOn s p (b ∷ []) (Found h n) → Advanced s p n
-token-byte s p b {h} {n} g =
-    let o : n .offset ≡ h .offset + 1 = ap (λ (x : Place). x .offset) (g .2) in
-    let i : p .offset ≤ h .offset = g .0 .further in
-    record { stands = g .1 .stands; further = omega arith }
-
-FollowOn : Text → Place → Look → Type 0
-FollowOn s p (Found h n) = Advanced s p n
-FollowOn s p (Missing n) = Advanced s p n
-FollowOn s p (Halted k q) = Unit
-
-follow-leads : (s : Text) (p : Place) (b : ℕ) → Stands s p → FollowOn s p (followOf s p b)
-unfolding followOf FollowOn
-follow-leads s p b h = go (token s p (b ∷ [])) (token-on s p (b ∷ []) h)
-  where
-    comma : (a : Place) → Reached s p a → (l : Look) → TokenOn s a (44 ∷ []) l → FollowOn s p (commaBy (needed l))
-    comma a r (Found k n) g = advanced-on r (token-byte s a 44 g)
-    comma a r (Missing k) g = tt
-    comma a r (Halted k q) g = tt
-
-    go : (l : Look) → TokenOn s p (b ∷ []) l → FollowOn s p (followBy s l)
-    go (Found a n) g = token-byte s p b g
-    go (Missing a) g = unfold expected in comma a g (token s a (44 ∷ [])) (token-on s a (44 ∷ []) (g .stands))
-    go (Halted k q) g = tt
-
 pub closed-on : {s : Text} {p h n : Place} {l : Look} (b : ℕ) → Stands s p → l ≡ followOf s p b → l ≡ Found h n → Advanced s p n
-unfolding FollowOn
 closed-on {s} {p} {h} {n} {l} b v e f = subst (FollowOn s p) (sym e ∙ f) (follow-leads s p b v)
 
 pub comma-on : {s : Text} {p n : Place} {l : Look} (b : ℕ) → Stands s p → l ≡ followOf s p b → l ≡ Missing n → Advanced s p n
-unfolding FollowOn
 comma-on {s} {p} {n} {l} b v e f = subst (FollowOn s p) (sym e ∙ f) (follow-leads s p b v)
 
 -- ---- the other leaves

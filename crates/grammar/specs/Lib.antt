@@ -8,5 +8,8 @@ pub mod Chains
 pub mod ChainLaws
 pub mod Keys
 pub mod KeyLaws
+pub mod Refusing
+pub mod Leads
+pub mod Suits
 pub mod Contracts
 pub mod Examples

@@ -20,78 +20,73 @@ use Rattle.reading.specs.Laws.Does.{by-make, then, stops, told, yes-way, no-way
 use Rattle.records.specs.Rows.{recordOf, layout, Lent}
 use Rattle.grammar.specs.declared.chain.Chain.{Chain}
 use Rattle.grammar.specs.declared.chain.Reduced.{Reduced}
+use Rattle.grammar.specs.declared.chain.Waiting.{Waiting}
 use Rattle.grammar.specs.Operators.{strengthOf, loosest}
 use Rattle.grammar.specs.Expressions.{Routine, Rule, Pending, binaryRow, reduceP}
-use Rattle.grammar.specs.Chains.{noNode, entries, pendingOf, Rising, bottom, above, Reduces}
+use Rattle.grammar.specs.Chains.{nothing, entries, pendingOf, Rising, bottom, above, Reduces}
 use Rattle.grammar.specs.ChainLaws.{rising-from, ten-enough}
 use Rattle.grammar.specs.Contracts.{Finished}
 
--- ---- arrays as a list
+-- ---- an array as a list
 
 -- what is written past the places that count leaves them
-kept : (ops : List ℕ) (nodes : List Node) (i op : ℕ) (left : Node) (n : ℕ) → n ≤ i → entries (set ops i op) (set nodes i left) n ≡ entries ops nodes n
+kept : (ws : List Waiting) (i : ℕ) (x : Waiting) (n : ℕ) → n ≤ i → entries (set ws i x) n ≡ entries ws n
 unfolding entries
-kept ops nodes i op left zero h = refl
-kept ops nodes i op left (suc n) h =
+kept ws i x zero h = refl
+kept ws i x (suc n) h =
     let ne : n ≡ i → ⊥ = λ e. omega arith in
-    let a : getD (set ops i op) n 0 ≡ getD ops n 0 = getD-set-other ops i n op 0 ne in
-    let b : getD (set nodes i left) n noNode ≡ getD nodes n noNode = getD-set-other nodes i n left noNode ne in
-    let r = kept ops nodes i op left n (omega arith) in
-    λ j. record { op = a j; left = b j } ∷ r j
+    let a : getD (set ws i x) n nothing ≡ getD ws n nothing = getD-set-other ws i n x nothing ne in
+    let r = kept ws i x n (omega arith) in
+    λ j. a j ∷ r j
 
-pub pushed : (ops : List ℕ) (nodes : List Node) (i op : ℕ) (left : Node) → i < length ops → i < length nodes
-    → entries (set ops i op) (set nodes i left) (i + 1) ≡ record { op = op; left = left } ∷ entries ops nodes i
+pub pushed : (ws : List Waiting) (i : ℕ) (x : Waiting) → i < length ws → entries (set ws i x) (i + 1) ≡ x ∷ entries ws i
 unfolding entries
-pushed ops nodes i op left h k =
+pushed ws i x h =
     let w : i ≤ i = omega arith in
-    let a = getD-set-same ops i op 0 h in
-    let b = getD-set-same nodes i left noNode k in
-    let r = kept ops nodes i op left i w in
-    ap (entries (set ops i op) (set nodes i left)) (add-one i) ∙ (λ j. record { op = a j; left = b j } ∷ r j)
+    let a = getD-set-same ws i x nothing h in
+    let r = kept ws i x i w in
+    ap (entries (set ws i x)) (add-one i) ∙ (λ j. a j ∷ r j)
 
 -- the newest of some, as the code reads it at the last place
-top : List ℕ → List Node → ℕ → Pending
-top ops nodes i = record { op = getD ops i 0; left = getD nodes i noNode }
-
-entries-top : (ops : List ℕ) (nodes : List Node) (n : ℕ) → 0 < n → entries ops nodes n ≡ top ops nodes (n - 1) ∷ entries ops nodes (n - 1)
-unfolding entries top
-entries-top ops nodes n h =
-    let e : n ≡ suc (n - 1) = omega arith in
-    ap (entries ops nodes) e
-
-entries-none : (ops : List ℕ) (nodes : List Node) (n : ℕ) → n ≤ 0 → entries ops nodes n ≡ []
+entries-top : (ws : List Waiting) (n : ℕ) → 0 < n → entries ws n ≡ getD ws (n - 1) nothing ∷ entries ws (n - 1)
 unfolding entries
-entries-none ops nodes n h = let e : n ≡ 0 = omega arith in ap (entries ops nodes) e
+entries-top ws n h =
+    let e : n ≡ suc (n - 1) = omega arith in
+    ap (entries ws) e
+
+entries-none : (ws : List Waiting) (n : ℕ) → n ≤ 0 → entries ws n ≡ []
+unfolding entries
+entries-none ws n h = let e : n ≡ 0 = omega arith in ap (entries ws) e
 
 -- ---- the steps of the rule
 
-module _ {G : Grammar Routine} {cap comps left : ℕ} {t : Tally} {A : List ℕ} (new : ℕ) (at : Place) (right : Node) (next : List Pending → Node → Rule) where
+module _ {G : Grammar Routine} {cap comps left : ℕ} {t : Tally} {A : List ℕ} (new : ℕ) (at : Place) (right : Node) (next : Pending → Node → Rule) where
   stay-empty : {a : Out} {Z : List ℕ} → Does layout G cap comps left t (next [] right) a A Z → Does layout G cap comps left t (reduceP new at [] right next) a A Z
   unfolding reduceP
   stay-empty d = d
 
-  stay-top : {a : Out} {Z : List ℕ} (x : Pending) (xs : List Pending) → new < strengthOf (x .op) → Does layout G cap comps left t (next (x ∷ xs) right) a A Z
+  stay-top : {a : Out} {Z : List ℕ} (x : Waiting) (xs : Pending) → new < strengthOf (x .op) → Does layout G cap comps left t (next (x ∷ xs) right) a A Z
       → Does layout G cap comps left t (reduceP new at (x ∷ xs) right next) a A Z
   unfolding reduceP
   stay-top x xs h d = no-way (lt-leb (strengthOf (x .op)) new h) d
 
-  one-made : {a : Out} {B Z : List ℕ} {q : Place} {n : Node} {u : Tally} (x : Pending) (xs : List Pending) → strengthOf (x .op) ≤ new
-      → Makes layout cap t at (recordOf (binaryRow (x .op) (x .left) right)) 0 (Read q n u) A B
+  one-made : {a : Out} {B Z : List ℕ} {q : Place} {n : Node} {u : Tally} (x : Waiting) (xs : Pending) → strengthOf (x .op) ≤ new
+      → Makes layout cap t at (recordOf (binaryRow x right)) 0 (Read q n u) A B
       → Does layout G cap comps left u (reduceP new at xs n next) a B Z → Does layout G cap comps left t (reduceP new at (x ∷ xs) right next) a A Z
   unfolding reduceP
   one-made x xs h m d = yes-way (le-leb (strengthOf (x .op)) new h) (then (by-make m) d)
 
-  one-full : {B : List ℕ} {k : Refusal} {q : Place} {u : Tally} (x : Pending) (xs : List Pending) → strengthOf (x .op) ≤ new
-      → Makes layout cap t at (recordOf (binaryRow (x .op) (x .left) right)) 0 (Refused k q u) A B → Does layout G cap comps left t (reduceP new at (x ∷ xs) right next) (Refused k q u) A B
+  one-full : {B : List ℕ} {k : Refusal} {q : Place} {u : Tally} (x : Waiting) (xs : Pending) → strengthOf (x .op) ≤ new
+      → Makes layout cap t at (recordOf (binaryRow x right)) 0 (Refused k q u) A B → Does layout G cap comps left t (reduceP new at (x ∷ xs) right next) (Refused k q u) A B
   unfolding reduceP
   one-full x xs h m = yes-way (le-leb (strengthOf (x .op)) new h) (stops (by-make m))
 
 -- ---- what is left is rising
 
-topped : {a b : ℕ} {x : Pending} {xs : List Pending} → a < strengthOf (x .op) → Rising b (x ∷ xs) → Rising (suc a) (x ∷ xs)
+topped : {a b : ℕ} {x : Waiting} {xs : Pending} → a < strengthOf (x .op) → Rising b (x ∷ xs) → Rising (suc a) (x ∷ xs)
 topped {a} {b} {x} l (above h r) = let z : suc a ≤ strengthOf (x .op) = omega arith in above z r
 
-rested : {b : ℕ} {x : Pending} {xs : List Pending} → Rising b (x ∷ xs) → Rising b xs
+rested : {b : ℕ} {x : Waiting} {xs : Pending} → Rising b (x ∷ xs) → Rising b xs
 rested {b} {x} (above h r) = let z : b ≤ suc (strengthOf (x .op)) = omega arith in rising-from z r
 
 -- ---- the loop
@@ -100,10 +95,10 @@ rested {b} {x} (above h r) = let z : b ≤ suc (strengthOf (x .op)) = omega arit
 pub record Reducing (cap new : ℕ) (at : Place) (c : Chain) (before : List ℕ) (right : Node) (t : Tally) (pool : List ℕ) (len : ℕ) (node : Node) (u : Tally) : Type 0 where
   pub same : length pool ≡ length before
   pub ten : len ≤ 10
-  pub rising : Rising 3 (entries (c .ops) (c .nodes) len)
+  pub rising : Rising 3 (entries (c .waiting) len)
   pub ids : u .ids ≡ t .ids
-  pub rest : (G : Grammar Routine) (comps left : ℕ) (next : List Pending → Node → Rule) (a : Out) (last : List ℕ)
-      → Does layout G cap comps left u (reduceP new at (entries (c .ops) (c .nodes) len) node next) a pool last
+  pub rest : (G : Grammar Routine) (comps left : ℕ) (next : Pending → Node → Rule) (a : Out) (last : List ℕ)
+      → Does layout G cap comps left u (reduceP new at (entries (c .waiting) len) node next) a pool last
       → Does layout G cap comps left t (reduceP new at (pendingOf c) right next) a before last
 
 pub reducing-starts : (cap new : ℕ) (at : Place) (c : Chain) (before : List ℕ) (right : Node) (t : Tally) → Rising 3 (pendingOf c)
@@ -119,94 +114,97 @@ never-refused e = absurd (refused-read (sym e))
 read-node : {p q : Place} {n m : Node} {t u : Tally} → Read p n t ≡ Read q m u → n ≡ m
 read-node e = cc
 
+read-place : {p q : Place} {n m : Node} {t u : Tally} → Read p n t ≡ Read q m u → q ≡ p
+read-place e = cc
+
 read-tally : {p q : Place} {n m : Node} {t u : Tally} → Read p n t ≡ Read q m u → t ≡ u
 read-tally e = cc
-
--- what is left of a chain
-abbrev pub shorter : Chain → ℕ → Chain
-shorter c len = record { ops = c .ops; nodes = c .nodes; len = len }
 
 module _ {cap new : ℕ} {at : Place} {c : Chain} {before : List ℕ} {right : Node} {t : Tally} {pool : List ℕ} {len : ℕ} {node : Node} {u : Tally}
     (v : Reducing cap new at c before right t pool len node u) where
   -- no operator is left that has to be reduced
-  reduced : ((G : Grammar Routine) (comps left : ℕ) (next : List Pending → Node → Rule) (a : Out) (last : List ℕ)
-      → Does layout G cap comps left u (next (entries (c .ops) (c .nodes) len) node) a pool last
-      → Does layout G cap comps left u (reduceP new at (entries (c .ops) (c .nodes) len) node next) a pool last)
-      → Rising (suc new) (entries (c .ops) (c .nodes) len) → Lent pool cap
-      → Reduces cap t at new c right (record { chain = shorter c len; out = Read at node u }) before pool
+  reduced : ((G : Grammar Routine) (comps left : ℕ) (next : Pending → Node → Rule) (a : Out) (last : List ℕ)
+      → Does layout G cap comps left u (next (entries (c .waiting) len) node) a pool last
+      → Does layout G cap comps left u (reduceP new at (entries (c .waiting) len) node next) a pool last)
+      → Rising (suc new) (entries (c .waiting) len) → Lent pool cap
+      → Reduces cap t at new c right (record { len = len; out = Read at node u }) before pool
   reduced stay r l =
       record {
         goes = λ G comps left next {u = w} f {a} {last} d.
             v .rest G comps left next a last
             (stay G comps left next a last
-            (subst (λ (x : Tally). Does layout G cap comps left x (next (entries (c .ops) (c .nodes) len) node) a pool last) (sym (read-tally f))
-            (subst (λ (x : Node). Does layout G cap comps left w (next (entries (c .ops) (c .nodes) len) x) a pool last) (sym (read-node f)) d)));
+            (subst (λ (x : Tally). Does layout G cap comps left x (next (entries (c .waiting) len) node) a pool last) (sym (read-tally f))
+            (subst (λ (x : Node). Does layout G cap comps left w (next (entries (c .waiting) len) x) a pool last) (sym (read-node f)) d)));
         stops = λ G comps left next f. never-refused f;
+        none = λ f. never-refused f;
         rising = λ f. r;
+        stays = λ f. read-place f;
         ids = λ f. ap (λ (x : Tally). x .ids) (sym (read-tally f)) ∙ v .ids;
         lent = l;
       }
 
-  pub reduced-empty : len ≤ 0 → Lent pool cap → Reduces cap t at new c right (record { chain = shorter c len; out = Read at node u }) before pool
+  pub reduced-empty : len ≤ 0 → Lent pool cap → Reduces cap t at new c right (record { len = len; out = Read at node u }) before pool
   reduced-empty h l =
-      let e = entries-none (c .ops) (c .nodes) len h in
+      let e = entries-none (c .waiting) len h in
       reduced
-      (λ G comps left next a last. subst⁻¹ (λ (xs : List Pending). Does layout G cap comps left u (next xs node) a pool last → Does layout G cap comps left u (reduceP new at xs node next) a pool last) e (stay-empty new at node next))
-      (subst⁻¹ (λ (xs : List Pending). Rising (suc new) xs) e bottom)
+      (λ G comps left next a last. subst⁻¹ (λ (xs : Pending). Does layout G cap comps left u (next xs node) a pool last → Does layout G cap comps left u (reduceP new at xs node next) a pool last) e (stay-empty new at node next))
+      (subst⁻¹ (λ (xs : Pending). Rising (suc new) xs) e bottom)
       l
 
   module _ (h : 0 < len) where
-    first : Pending
-    first = top (c .ops) (c .nodes) (len - 1)
+    first : Waiting
+    first = getD (c .waiting) (len - 1) nothing
 
-    others : List Pending
-    others = entries (c .ops) (c .nodes) (len - 1)
+    others : Pending
+    others = entries (c .waiting) (len - 1)
 
-    at-top : entries (c .ops) (c .nodes) len ≡ first ∷ others
+    at-top : entries (c .waiting) len ≡ first ∷ others
     unfolding first others
-    at-top = entries-top (c .ops) (c .nodes) len h
+    at-top = entries-top (c .waiting) len h
 
-    pub reduced-top : {s : ℕ} → s ≡ strengthOf (getD (c .ops) (len - 1) 0) → new < s → Lent pool cap
-        → Reduces cap t at new c right (record { chain = shorter c len; out = Read at node u }) before pool
-    unfolding first others top
+    pub reduced-top : {s : ℕ} → s ≡ strengthOf (getD (c .waiting) (len - 1) nothing .op) → new < s → Lent pool cap
+        → Reduces cap t at new c right (record { len = len; out = Read at node u }) before pool
+    unfolding first others
     reduced-top {s} e g l =
         let k : new < strengthOf (first .op) = subst (λ (x : ℕ). new < x) e g in
         reduced
-        (λ G comps left next a last. subst⁻¹ (λ (xs : List Pending). Does layout G cap comps left u (next xs node) a pool last → Does layout G cap comps left u (reduceP new at xs node next) a pool last) at-top (stay-top new at node next first others k))
-        (subst⁻¹ (λ (xs : List Pending). Rising (suc new) xs) at-top (topped k (subst (λ (xs : List Pending). Rising 3 xs) at-top (v .rising))))
+        (λ G comps left next a last. subst⁻¹ (λ (xs : Pending). Does layout G cap comps left u (next xs node) a pool last → Does layout G cap comps left u (reduceP new at xs node next) a pool last) at-top (stay-top new at node next first others k))
+        (subst⁻¹ (λ (xs : Pending). Rising (suc new) xs) at-top (topped k (subst (λ (xs : Pending). Rising 3 xs) at-top (v .rising))))
         l
 
-    module _ {s : ℕ} {r : Out} {later : List ℕ} (e : s ≡ strengthOf (getD (c .ops) (len - 1) 0)) (g : s ≤ new)
-        (m : Makes layout cap u at (recordOf (binaryRow (getD (c .ops) (len - 1) 0) (getD (c .nodes) (len - 1) noNode) node)) 0 r pool later) where
+    module _ {s : ℕ} {r : Out} {later : List ℕ} (e : s ≡ strengthOf (getD (c .waiting) (len - 1) nothing .op)) (g : s ≤ new)
+        (m : Makes layout cap u at (recordOf (binaryRow (getD (c .waiting) (len - 1) nothing) node)) 0 r pool later) where
       pub reducing-on : {q : Place} {n : Node} {w : Tally} → r ≡ Read q n w → length later ≡ length pool → Reducing cap new at c before right t later (len - 1) n w
-      unfolding first others top
+      unfolding first others
       reducing-on {q} {n} {w} f k =
           record {
             same = k ∙ v .same;
             ten = let z : len ≤ 10 = v .ten in omega arith;
-            rising = rested (subst (λ (xs : List Pending). Rising 3 xs) at-top (v .rising));
+            rising = rested (subst (λ (xs : Pending). Rising 3 xs) at-top (v .rising));
             ids = ap (λ (x : Tally). x .ids) (made m f .tally) ∙ v .ids;
             rest = λ G comps left next a last d.
                 v .rest G comps left next a last
-                (subst⁻¹ (λ (xs : List Pending). Does layout G cap comps left u (reduceP new at xs node next) a pool last) at-top
+                (subst⁻¹ (λ (xs : Pending). Does layout G cap comps left u (reduceP new at xs node next) a pool last) at-top
                 (one-made new at node next first others (subst (λ (x : ℕ). x ≤ new) e g)
-                (subst (λ (o : Out). Makes layout cap u at (recordOf (binaryRow (first .op) (first .left) node)) 0 o pool later) f m)
+                (subst (λ (o : Out). Makes layout cap u at (recordOf (binaryRow first node)) 0 o pool later) f m)
                 d));
           }
 
       pub reduced-full : {k : Refusal} {q : Place} {w : Tally} → r ≡ Refused k q w → Lent later cap
-          → Reduces cap t at new c right (record { chain = c; out = r }) before later
-      unfolding first others top
+          → Reduces cap t at new c right (record { len = 0; out = r }) before later
+      unfolding first others
       reduced-full {k} {q} {w} f l =
           record {
             goes = λ G comps left next x d. never-read (sym f ∙ x);
             stops = λ G comps left next x.
                 told (sym f ∙ x)
                 (v .rest G comps left next (Refused k q w) later
-                (subst⁻¹ (λ (xs : List Pending). Does layout G cap comps left u (reduceP new at xs node next) (Refused k q w) pool later) at-top
+                (subst⁻¹ (λ (xs : Pending). Does layout G cap comps left u (reduceP new at xs node next) (Refused k q w) pool later) at-top
                 (one-full new at node next first others (subst (λ (x : ℕ). x ≤ new) e g)
-                (subst (λ (o : Out). Makes layout cap u at (recordOf (binaryRow (first .op) (first .left) node)) 0 o pool later) f m))));
+                (subst (λ (o : Out). Makes layout cap u at (recordOf (binaryRow first node)) 0 o pool later) f m))));
+            none = λ x. refl;
             rising = λ x. never-read (sym f ∙ x);
+            stays = λ x. never-read (sym f ∙ x);
             ids = λ x. never-read (sym f ∙ x);
             lent = l;
           }

@@ -92,7 +92,7 @@ module _ {s : Text} {cap comps left : ℕ} {t : Tally} {r : Out} {A B : List ℕ
   unfolding postfixesP
   by-postfix {p} {l} {x} f node v e g d = subst (λ (y : Postfix). Does layout (grammar s) cap comps left t (postfixAs s node y (postfixesP f s)) r A B) (sym g ∙ e) d
 
-  pub by-link : {p : Place} {l x : Link} (f : ℕ) (allowed : Bool) (xs : List Pending) (right : Node) → Stands s p → l ≡ linkOf s p → l ≡ x
+  pub by-link : {p : Place} {l x : Link} (f : ℕ) (allowed : Bool) (xs : Pending) (right : Node) → Stands s p → l ≡ linkOf s p → l ≡ x
       → Does layout (grammar s) cap comps left t (linkAs s allowed xs right p x (λ ys e q. chainP f s allowed ys e q)) r A B
       → Does layout (grammar s) cap comps left t (chainP (suc f) s allowed xs right p) r A B
   unfolding chainP
@@ -103,8 +103,8 @@ module _ {G : Grammar Routine} {cap comps left : ℕ} {t : Tally} {r : Out} {A B
   pub same-turns : (P : ℕ → Rule) {f g : ℕ} → f ≡ g → Does layout G cap comps left t (P f) r A B → Does layout G cap comps left t (P g) r A B
   same-turns P e d = subst (λ (f : ℕ). Does layout G cap comps left t (P f) r A B) e d
 
-  pub same-pending : (P : List Pending → Rule) {xs ys : List Pending} → xs ≡ ys → Does layout G cap comps left t (P xs) r A B → Does layout G cap comps left t (P ys) r A B
-  same-pending P e d = subst (λ (f : List Pending). Does layout G cap comps left t (P f) r A B) e d
+  pub same-pending : (P : Pending → Rule) {xs ys : Pending} → xs ≡ ys → Does layout G cap comps left t (P xs) r A B → Does layout G cap comps left t (P ys) r A B
+  same-pending P e d = subst (λ (f : Pending). Does layout G cap comps left t (P f) r A B) e d
 
 -- ---- lists
 

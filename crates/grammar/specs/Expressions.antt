@@ -33,6 +33,7 @@ use Rattle.grammar.specs.declared.leaves.Suffix.{Suffix}
 use Rattle.grammar.specs.declared.leaves.Suffix.the-variants as suffix
 use Rattle.grammar.specs.declared.leaves.Link.{Link}
 use Rattle.grammar.specs.declared.leaves.Link.the-variants.{Choice, Operator, Assign, End}
+use Rattle.grammar.specs.declared.chain.Waiting.{Waiting}
 use Rattle.grammar.specs.Operators.{strengthOf, loosest}
 use Rattle.grammar.specs.Leaves.{rowOf, numberRow, prefixOf, atomOf, postfixOf, linkOf, closeOf, followOf, keyAt}
 
@@ -224,21 +225,25 @@ prefixP s p = prefixAs s (prefixOf s p)
 
 -- ---- expression: prefix { operator prefix } [ '?' expression ':' expression ]
 
--- an operator that waits for its right side, with its left side
-pub record Pending : Type 0 where
-  pub op : ℕ
-  pub left : Node
+-- the operators that wait for their right sides, newest first
+abbrev pub Pending : Type 0
+Pending = List Waiting
 
-abbrev pub binaryRow : ℕ → Node → Node → Row
-binaryRow op l r = rowOf kinds.Binary (l .position) op (l .number) (r .number)
+-- one that waits, with its left side
+abbrev pub waits : ℕ → Node → Waiting
+waits op left = record { op = op; left = left .number; position = left .position }
+
+-- "binary and choice take their leftmost operand's [position]"
+abbrev pub binaryRow : Waiting → Node → Row
+binaryRow x right = rowOf kinds.Binary (x .position) (x .op) (x .left) (right .number)
 
 -- "A binary is made when an operator that doesn't bind tighter, or `?`, has been taken, or when the chain ends": the pending operators
 -- that bind at least as tightly as `new`, newest first, and then on
-unfoldable pub reduceP : ℕ → Place → List Pending → Node → (List Pending → Node → Rule) → Rule
+unfoldable pub reduceP : ℕ → Place → Pending → Node → (Pending → Node → Rule) → Rule
 reduceP new p [] right next = next [] right
 reduceP new p (x ∷ xs) right next =
     test (leb (strengthOf (x .op)) new)
-    (bind (make p (recordOf (binaryRow (x .op) (x .left) right)) 0) (λ q n. reduceP new p xs n next))
+    (bind (make p (recordOf (binaryRow x right)) 0) (λ q n. reduceP new p xs n next))
     (next (x ∷ xs) right)
 
 -- "A choice takes the whole chain before `?` as its test; its arms are full expressions"
@@ -248,15 +253,15 @@ choiceP s e p =
     (λ q a. must (expected s q (ascii ":"))
     (λ h n. bind (call expression n) (λ q b. make q (recordOf (rowOf kinds.Choice (e .position) (e .number) (a .number) (b .number))) 0)))
 
-abbrev pub linkAs : Text → Bool → List Pending → Node → Place → Link → (List Pending → Node → Place → Rule) → Rule
+abbrev pub linkAs : Text → Bool → Pending → Node → Place → Link → (Pending → Node → Place → Rule) → Rule
 linkAs s allowed xs right p (Choice n) again = reduceP loosest n xs right (λ ys e. choiceP s e n)
 linkAs s allowed xs right p (Operator op n) again =
-    reduceP (strengthOf op) n xs right (λ ys e. bind (prefixP s n) (λ q r. again (record { op = op; left = e } ∷ ys) r q))
+    reduceP (strengthOf op) n xs right (λ ys e. bind (prefixP s n) (λ q r. again (waits op e ∷ ys) r q))
 linkAs s allowed xs right p Assign again = test allowed (reduceP loosest p xs right (λ ys e. done p e)) (stop AssignmentAsExpression p)
 linkAs s allowed xs right p End again = reduceP loosest p xs right (λ ys e. done p e)
 
 -- the rest of a chain, its last operand read
-unfoldable pub chainP : ℕ → Text → Bool → List Pending → Node → Place → Rule
+unfoldable pub chainP : ℕ → Text → Bool → Pending → Node → Place → Rule
 unfolding linkOf reduceP choiceP prefixP
 chainP zero s allowed xs right p = spent p
 chainP (suc f) s allowed xs right p = linkAs s allowed xs right p (linkOf s p) (λ ys r q. chainP f s allowed ys r q)

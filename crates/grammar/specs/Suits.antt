@@ -333,20 +333,20 @@ module _ (s : Text) (m : ℕ) where
 -- ---- chains
 
 -- The left sides of pending operators are among so many records.
-abbrev Held : ℕ → List Pending → Type 0
+abbrev Held : ℕ → Pending → Type 0
 Held made [] = Unit {0}
-Held made (x ∷ xs) = (x .left .number ≤ made) × Held made xs
+Held made (x ∷ xs) = (x .left ≤ made) × Held made xs
 
 -- Where more records were made, they are still among them.
-held-more : {made more : ℕ} (xs : List Pending) → made ≤ more → Held made xs → Held more xs
+held-more : {made more : ℕ} (xs : Pending) → made ≤ more → Held made xs → Held more xs
 held-more [] l h = tt
 held-more (x ∷ xs) l h = let a = h .0 in (omega arith, held-more xs l (h .1))
 
 module _ (s : Text) (m : ℕ) where
   -- Binaries are made of records that were made, and the rule goes on.
-  reduce-fits : (new : ℕ) (p : Place) (xs : List Pending) (right : Node) (next : List Pending → Node → Rule) (before : List Rec) (Q : Claim)
+  reduce-fits : (new : ℕ) (p : Place) (xs : Pending) (right : Node) (next : Pending → Node → Rule) (before : List Rec) (Q : Claim)
       → Held (length before) xs → right .number ≤ length before
-      → ((now : List Rec) (ys : List Pending) (e : Node) → Since before now → Held (length now) ys → e .number ≤ length now → Fits (choice s) m now Q (next ys e))
+      → ((now : List Rec) (ys : Pending) (e : Node) → Since before now → Held (length now) ys → e .number ≤ length now → Fits (choice s) m now Q (next ys e))
       → Fits (choice s) m before Q (reduceP new p xs right next)
   unfolding reduceP
   reduce-fits new p [] right next before Q hs l k = k before [] right (since-same before) tt l
@@ -372,7 +372,7 @@ module _ (s : Text) (m : ℕ) where
       (λ now″ w. h now″ q′ _ (since-trans since (since-trans since′ (since-with w))) (advanced-on r (b′ .0)) (omega arith)))))))
 
   -- A chain has turns enough, for each reads an operator.
-  chain-works : (f : ℕ) (before : List Rec) (allowed : Bool) (xs : List Pending) (right : Node) (p : Place) → Stands s p
+  chain-works : (f : ℕ) (before : List Rec) (allowed : Bool) (xs : Pending) (right : Node) (p : Place) → Stands s p
       → length s - p .offset < f → Held (length before) xs → right .number ≤ length before → length s - p .offset ≤ m
       → Works s m before (Reached s p) (chainP f s allowed xs right p)
   unfolding chainP
@@ -388,7 +388,7 @@ module _ (s : Text) (m : ℕ) where
       over = reduce-fits _ p xs right _ before Q hs l (λ now ys e since hs′ number. fits-done (h now p e since (reached-here st) number))
 
       go : (x : Link) → LinkOn s p x
-          → ((now : List Rec) (ys : List Pending) (e : Node) (q : Place) → Since before now → Advanced s p q → Held (length now) ys → e .number ≤ length now → Fits (choice s) m now Q (chainP f s allowed ys e q))
+          → ((now : List Rec) (ys : Pending) (e : Node) (q : Place) → Since before now → Advanced s p q → Held (length now) ys → e .number ≤ length now → Fits (choice s) m now Q (chainP f s allowed ys e q))
           → Fits (choice s) m before Q (linkAs s allowed xs right p x (λ ys r q. chainP f s allowed ys r q))
       go (link.Choice n) g again =
           reduce-fits _ n xs right _ before Q hs l (λ now ys e since hs′ number.

@@ -16,21 +16,27 @@ ghost use Rattle.grammar.specs.Expressions.{binaryRow};
 ghost use Rattle.grammar.specs.Chains.{pendingOf, Pushed, Rising, Reduces};
 ghost use Rattle.grammar.specs.Contracts.{Finished};
 
+// An operator that waits for its right side: its number, and its left side's record and position.
+pub struct Waiting {
+    pub op: u32,
+    pub left: u32,
+    pub position: Place,
+}
+
 // The first `len` places count.
 pub struct Chain {
-    pub ops: [u32; 10],
-    pub nodes: [Node; 10],
+    pub waiting: [Waiting; 10],
     pub len: u32,
 }
 
-// The chain that is left; read, with the last operand, or refused.
+// How many operators are left, the oldest ones, and the last operand; none are left where it is refused.
 pub struct Reduced {
-    pub chain: Chain,
+    pub len: u32,
     pub out: Out,
 }
 
 impl Chain {
-    // No operator is pending.
+    // No operator waits.
     pub fn empty() -> Self
         ensures { λ r. ⌜ pendingOf r ≡ [] ⌝ }
     {
@@ -39,43 +45,45 @@ impl Chain {
             line: 0,
             column: 0,
         };
-        let node = Node {
-            number: 0,
-            kind: 0,
+        let none = Waiting {
+            op: 0,
+            left: 0,
             position,
-            value: 0,
         };
-        let ops = [0u32; 10];
-        let nodes = [node; 10];
-        Self { ops, nodes, len: 0 }
+        let waiting = [none; 10];
+        Self { waiting, len: 0 }
     }
 
-    // One operator more, which waits for its right side.
-    pub fn push(self, op: u32, left: Node) -> Self
-        requires { ⌜ self .len < 10 ⌝ }
-        ensures { λ r. ⌜ Pushed self op left r ⌝ }
+    // One operator more, after the first `len`.
+    pub fn push(self, len: u32, op: u32, left: Node) -> Self
+        requires { ⌜ len < 10 ⌝ }
+        ensures { λ r. ⌜ Pushed self len op left r ⌝ }
     {
         let mut r = self;
-        let n = r.len;
-        let i = n as usize;
-        r.ops[i] = op;
-        r.nodes[i] = left;
-        r.len = n + 1;
+        let i = len as usize;
+        let position = left.position;
+        let last = Waiting {
+            op,
+            left: left.number,
+            position,
+        };
+        r.waiting[i] = last;
+        r.len = len + 1;
         r
     }
 }
 
 // The record of an operator and its two sides.
-fn join(pool: &mut [u32], cap: u32, t: Tally, at: Place, op: u32, left: Node, right: Node) -> Out
+fn join(pool: &mut [u32], cap: u32, t: Tally, at: Place, last: Waiting, right: Node) -> Out
     requires { ⌜ Lent (now pool) cap ⌝ }
-    ensures { λ r. ⌜ Makes layout cap t at (recordOf (binaryRow op left right)) 0 r (now (pool .entry)) (now (pool .exit)) ⌝ }
+    ensures { λ r. ⌜ Makes layout cap t at (recordOf (binaryRow last right)) 0 r (now (pool .entry)) (now (pool .exit)) ⌝ }
 {
-    let position = left.position;
+    let position = last.position;
     let row = Row {
         kind: Kind::Binary,
         position,
-        a: op,
-        b: left.number,
+        a: last.op,
+        b: last.left,
         c: right.number,
         d: 0,
     };
@@ -101,14 +109,13 @@ pub fn reduce(
     while 0 < len {
         let last = len - 1;
         let i = last as usize;
-        let op = chain.ops[i];
-        if new < strength_of(op) {
+        let waits = chain.waiting[i];
+        if new < strength_of(waits.op) {
             break;
         }
-        let left = chain.nodes[i];
-        let made = join(pool, cap, tally, at, op, left, node);
+        let made = join(pool, cap, tally, at, waits, node);
         match made {
-            Out::Refused { .. } => return Reduced { chain, out: made },
+            Out::Refused { .. } => return Reduced { len: 0, out: made },
             Out::Read {
                 node: n,
                 tally: u,
@@ -120,10 +127,8 @@ pub fn reduce(
             }
         }
     }
-    let mut rest = chain;
-    rest.len = len;
     let out = Out::Read { at, node, tally };
-    Reduced { chain: rest, out }
+    Reduced { len, out }
 }
 
 // Makes all binaries that are pending, when `at` is reached.

@@ -70,7 +70,12 @@ pub fn expr(
     let Out::Read { at: q, node, tally } = first else {
         return first;
     };
-    chain(text, pool, cap, comps, lower, false, node, q, tally)
+    // Most expressions are one operand.
+    let link = link_of(text, q);
+    let Link::End = link else {
+        return chain(text, pool, cap, comps, lower, false, node, q, tally);
+    };
+    first
 }
 
 // prefix: ( '!' | '-' | '+' ) prefix | postfix
@@ -650,8 +655,7 @@ fn chain(
                 else {
                     return operand;
                 };
-                let rest = less.chain;
-                pending = rest.push(op, node);
+                pending = pending.push(less.len, op, node);
                 right = n;
                 here = q;
                 tally = v;

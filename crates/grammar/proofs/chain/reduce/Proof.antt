@@ -1,7 +1,7 @@
 -- `reduce` goes with the rule, one binary at a time. Assumes nothing.
-use Rattle.grammar.proofs.Chains.{Reducing, reducing-starts, reducing-on, reduced-full, reduced-empty, reduced-top}
-use Rattle.records.specs.Laws.Rows.{lent-kept}
 use mathlib.Core.Path.{_∙_}
+use Rattle.records.specs.Laws.Rows.{lent-kept}
+use Rattle.grammar.proofs.Chains.{Reducing, reducing-starts, reducing-on, reduced-full, reduced-empty, reduced-top}
 use borrow.Author.Needs.{needs}
 use Rattle.grammar.proofs.chain.reduce.Statement.{statement}
 use Rattle.grammar.proofs.chain.reduce.Tie as tie
@@ -25,23 +25,17 @@ sub-last c = search needs
 cast-i : tie.Need-cast-i Inv-loop μ-loop
 cast-i c = search needs
 
-mul-op : tie.Need-mul-op Inv-loop μ-loop
-mul-op c = search needs
+mul-waits : tie.Need-mul-waits Inv-loop μ-loop
+mul-waits c = search needs
 
-element-copy-out-op : tie.Need-element-copy-out-op Inv-loop μ-loop
-element-copy-out-op c = search needs
+element-copy-out-waits : tie.Need-element-copy-out-waits Inv-loop μ-loop
+element-copy-out-waits c = search needs
 
 strength-of-requires : tie.Need-strength-of-requires Inv-loop μ-loop
 strength-of-requires c κs = search needs
 
-mul-left : tie.Need-mul-left Inv-loop μ-loop
-mul-left c = search needs
-
-element-copy-out-left : tie.Need-element-copy-out-left Inv-loop μ-loop
-element-copy-out-left c = search needs
-
 join-requires : tie.Need-join-requires Inv-loop μ-loop
-join-requires c κs = lent-kept (c .before .before .before .before .before .before .before .before .pre .0) (c .before .before .before .before .before .before .loop .inv .same)
+join-requires c κs = lent-kept (c .before .before .before .before .before .before .before .pre .0) (c .before .before .before .before .before .loop .inv .same)
 
 enum-told : tie.Need-enum-told Inv-loop μ-loop
 enum-told c = search needs
@@ -50,7 +44,7 @@ same-length : tie.Need-same-length Inv-loop μ-loop
 same-length c = search needs
 
 returns : tie.Need-returns Inv-loop μ-loop
-returns c = reduced-full (c .before .before .before .before .before .before .before .before .before .before .before .loop .inv) (c .before .before .before .before .before .before .before .before .before .before .loop-test .taken) (c .before .before .before .before .before .before .before .before .strength-of .ensures) (c .before .before .before .before .before .before .before .if1 .left) (c .before .before .before .before .join .ensures) (c .enum-told .given .1) (lent-kept (c .before .before .before .before .before .before .before .before .before .before .before .before .before .pre .0) (c .before .before .before .before .join .kept .0 ∙ c .before .before .before .before .before .before .before .before .before .before .before .loop .inv .same))
+returns c = reduced-full (c .before .before .before .before .before .before .before .before .before .before .loop .inv) (c .before .before .before .before .before .before .before .before .before .loop-test .taken) (c .before .before .before .before .before .before .before .strength-of .ensures) (c .before .before .before .before .before .before .if1 .left) (c .before .before .before .before .join .ensures) (c .enum-told .given .1) (lent-kept (c .before .before .before .before .before .before .before .before .before .before .before .before .pre .0) (c .before .before .before .before .join .kept .0 ∙ c .before .before .before .before .before .before .before .before .before .before .loop .inv .same))
 
 enum-known-made : tie.Need-enum-known-made Inv-loop μ-loop
 enum-known-made c = search needs
@@ -59,7 +53,7 @@ loop-less : tie.Need-loop-less Inv-loop μ-loop
 loop-less c = search needs
 
 loop-again : tie.Need-loop-again Inv-loop μ-loop
-loop-again c = reducing-on (c .before .before .before .before .before .before .before .before .before .before .before .before .loop .inv) (c .before .before .before .before .before .before .before .before .before .before .before .loop-test .taken) (c .before .before .before .before .before .before .before .before .before .strength-of .ensures) (c .before .before .before .before .before .before .before .before .if1 .left) (c .before .before .before .before .before .join .ensures) (c .before .made .given .1) (c .before .before .before .before .before .join .kept .0)
+loop-again c = reducing-on (c .before .before .before .before .before .before .before .before .before .before .before .loop .inv) (c .before .before .before .before .before .before .before .before .before .before .loop-test .taken) (c .before .before .before .before .before .before .before .before .strength-of .ensures) (c .before .before .before .before .before .before .before .if1 .left) (c .before .before .before .before .before .join .ensures) (c .before .made .given .1) (c .before .before .before .before .before .join .kept .0)
 
 same-length-2 : tie.Need-same-length-2 Inv-loop μ-loop
 same-length-2 c = search needs
@@ -82,11 +76,9 @@ reduce-spec =
     loop-holds
     sub-last
     cast-i
-    mul-op
-    element-copy-out-op
+    mul-waits
+    element-copy-out-waits
     strength-of-requires
-    mul-left
-    element-copy-out-left
     join-requires
     enum-told
     same-length

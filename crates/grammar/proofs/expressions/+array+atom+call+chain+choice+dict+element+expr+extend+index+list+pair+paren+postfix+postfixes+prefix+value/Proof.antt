@@ -1,6 +1,7 @@
 -- The readers of expressions meet their contracts: a return's proof mirrors the steps of its rule on the code's path. Assumes nothing.
 use mathlib.Core.Path.{_≡_, refl, sym, ap, _∙_}
 use mathlib.Core.List.{[], _∷_}
+use mathlib.Core.Bool.{false}
 use Prim.Native.Nat.{suc, _+_, _*_, _-_}
 use native.Mathlib.Omega.{arith}
 use lib.ListN.{length}
@@ -12,7 +13,7 @@ use Rattle.reading.specs.Laws.Does.{by-done, by-stop, by-make, then, stops, tol
 use Rattle.grammar.specs.Leaves.{keyAt}
 use Rattle.grammar.specs.Chains.{pendingOf}
 use Rattle.grammar.specs.Contracts.{SuffixReady}
-use Rattle.grammar.specs.Expressions.{grammar, expressionP, postfixP, postfixesP, callP, indexP, parenP, arrayP, elementP, listP, choiceP, valueP, pairP, withKey, dictP, chainP, prefixP}
+use Rattle.grammar.specs.Expressions.{grammar, waits, expressionP, postfixP, postfixesP, callP, indexP, parenP, arrayP, elementP, listP, choiceP, valueP, pairP, withKey, dictP, reduceP, chainP, prefixP}
 use Rattle.grammar.specs.ChainLaws.{rising-empty, rising-room, rising-pushed}
 use Rattle.grammar.specs.KeyLaws.{well-chained, key-then, key-stops, kept, listed-none, listed-kept, listed-does, listed-put}
 use Rattle.grammar.proofs.Steps.{refused, moved, later, stays, put-on, ready-at, lent-on, ready-on, halts, off}
@@ -486,7 +487,7 @@ chain-same-length-6 : (t : ℕ) → chain-lts.Need-same-length-6 (chain-calls t)
 chain-same-length-6 t c = c .before .before .before .before .reduce .kept .0 ∙ (c .before .before .before .before .before .before .before .before .before .before .before .loop .inv) .same
 
 chain-returns-6 : (t : ℕ) → chain-lts.Need-returns-6 (chain-calls t) (chain-at t) chain.Post chain-Inv-loop chain-μ-loop
-chain-returns-6 t c = record { does = (c .before .before .before .before .before .before .before .before .before .before .before .loop .inv) .rest _ _ (by-link _ _ _ _ (c .before .before .before .before .before .before .before .before .before .before .before .loop .inv .turn .place .stands) (c .before .before .before .before .before .before .before .before .before .before .link-of .ensures) (c .before .before .before .before .before .before .before .before .link2 .given .1) (told (sym (c .enum-told4 .given .1)) ((reduced-by (c .before .before .before .before .before .before .strength-of .ensures) (c .before .before .before .before .reduce .ensures)) .stops _ _ _ (λ ys e. bind (prefixP _ _) (λ q r. chainP _ _ _ (record { op = _; left = e } ∷ ys) r q)) (c .enum-told4 .given .1)))); onward = off (c .enum-told4 .given .1) }
+chain-returns-6 t c = record { does = (c .before .before .before .before .before .before .before .before .before .before .before .loop .inv) .rest _ _ (by-link _ _ _ _ (c .before .before .before .before .before .before .before .before .before .before .before .loop .inv .turn .place .stands) (c .before .before .before .before .before .before .before .before .before .before .link-of .ensures) (c .before .before .before .before .before .before .before .before .link2 .given .1) (told (sym (c .enum-told4 .given .1)) ((reduced-by (c .before .before .before .before .before .before .strength-of .ensures) (c .before .before .before .before .reduce .ensures)) .stops _ _ _ (λ ys e. bind (prefixP _ _) (λ q r. chainP _ _ _ (waits _ e ∷ ys) r q)) (c .enum-told4 .given .1)))); onward = off (c .enum-told4 .given .1) }
 
 chain-prefix-requires : (t : ℕ) → chain-lts.Need-prefix-requires (chain-calls t) (chain-at t) chain.Post chain-Inv-loop chain-μ-loop
 chain-prefix-requires t c κs = let k = ready-on (c .before .before .before .before .before .before .reduce .last .0) (c .before .before .before .before .before .before .before .before .before .before .before .before .before .before .before .before .before .pre .1) (c .before .before .before .before .before .before .reduce .kept .0 ∙ (c .before .before .before .before .before .before .before .before .before .before .before .before .before .loop .inv) .same) ((operator-on (c .before .before .before .before .before .before .before .before .before .before .before .before .before .loop .inv .turn .place .stands) (c .before .before .before .before .before .before .before .before .before .before .before .before .link-of .ensures) (c .before .before .before .before .before .before .before .before .before .before .link2 .given .1)) .0 .stands) in let m = c .before .before .before .before .before .before .before .before .before .before .before .before .before .before .before .before .before .pre .0 in (search needs, k)
@@ -501,16 +502,16 @@ chain-same-length-7 : (t : ℕ) → chain-lts.Need-same-length-7 (chain-calls t)
 chain-same-length-7 t c = c .before .before .before .before .prefix .kept .1 .0 ∙ c .before .before .before .before .before .before .before .before .before .before .before .reduce .kept .0 ∙ (c .before .before .before .before .before .before .before .before .before .before .before .before .before .before .before .before .before .before .loop .inv) .same
 
 chain-returns-7 : (t : ℕ) → chain-lts.Need-returns-7 (chain-calls t) (chain-at t) chain.Post chain-Inv-loop chain-μ-loop
-chain-returns-7 t c = record { does = (c .before .before .before .before .before .before .before .before .before .before .before .before .before .before .before .before .before .before .loop .inv) .rest _ _ (by-link _ _ _ _ (c .before .before .before .before .before .before .before .before .before .before .before .before .before .before .before .before .before .before .loop .inv .turn .place .stands) (c .before .before .before .before .before .before .before .before .before .before .before .before .before .before .before .before .before .link-of .ensures) (c .before .before .before .before .before .before .before .before .before .before .before .before .before .before .before .link2 .given .1) ((reduced-by (c .before .before .before .before .before .before .before .before .before .before .before .before .before .strength-of .ensures) (c .before .before .before .before .before .before .before .before .before .before .before .reduce .ensures)) .goes _ _ _ (λ ys e. bind (prefixP _ _) (λ q r. chainP _ _ _ (record { op = _; left = e } ∷ ys) r q)) (c .before .before .before .before .before .before .before .out .given .1) (halts (c .enum-told5 .given .1) (c .before .before .before .before .prefix .ensures .does)))); onward = off (c .enum-told5 .given .1) }
+chain-returns-7 t c = record { does = (c .before .before .before .before .before .before .before .before .before .before .before .before .before .before .before .before .before .before .loop .inv) .rest _ _ (by-link _ _ _ _ (c .before .before .before .before .before .before .before .before .before .before .before .before .before .before .before .before .before .before .loop .inv .turn .place .stands) (c .before .before .before .before .before .before .before .before .before .before .before .before .before .before .before .before .before .link-of .ensures) (c .before .before .before .before .before .before .before .before .before .before .before .before .before .before .before .link2 .given .1) ((reduced-by (c .before .before .before .before .before .before .before .before .before .before .before .before .before .strength-of .ensures) (c .before .before .before .before .before .before .before .before .before .before .before .reduce .ensures)) .goes _ _ _ (λ ys e. bind (prefixP _ _) (λ q r. chainP _ _ _ (waits _ e ∷ ys) r q)) (c .before .before .before .before .before .before .before .out .given .1) (halts (c .enum-told5 .given .1) (c .before .before .before .before .prefix .ensures .does)))); onward = off (c .enum-told5 .given .1) }
 
 chain-push-requires : (t : ℕ) → chain-lts.Need-push-requires (chain-calls t) (chain-at t) chain.Post chain-Inv-loop chain-μ-loop
-chain-push-requires t c κs = rising-room _ _ ((operator-on (c .before .before .before .before .before .before .before .before .before .before .before .before .before .before .before .before .before .before .before .before .loop .inv .turn .place .stands) (c .before .before .before .before .before .before .before .before .before .before .before .before .before .before .before .before .before .before .before .link-of .ensures) (c .before .before .before .before .before .before .before .before .before .before .before .before .before .before .before .before .before .link2 .given .1)) .1) ((operator-on (c .before .before .before .before .before .before .before .before .before .before .before .before .before .before .before .before .before .before .before .before .loop .inv .turn .place .stands) (c .before .before .before .before .before .before .before .before .before .before .before .before .before .before .before .before .before .before .before .link-of .ensures) (c .before .before .before .before .before .before .before .before .before .before .before .before .before .before .before .before .before .link2 .given .1)) .2) ((reduced-by (c .before .before .before .before .before .before .before .before .before .before .before .before .before .before .before .strength-of .ensures) (c .before .before .before .before .before .before .before .before .before .before .before .before .before .reduce .ensures)) .rising (c .before .before .before .before .before .before .before .before .before .out .given .1))
+chain-push-requires t c κs = rising-room _ _ _ ((operator-on (c .before .before .before .before .before .before .before .before .before .before .before .before .before .before .before .before .before .before .before .loop .inv .turn .place .stands) (c .before .before .before .before .before .before .before .before .before .before .before .before .before .before .before .before .before .before .link-of .ensures) (c .before .before .before .before .before .before .before .before .before .before .before .before .before .before .before .before .link2 .given .1)) .1) ((operator-on (c .before .before .before .before .before .before .before .before .before .before .before .before .before .before .before .before .before .before .before .loop .inv .turn .place .stands) (c .before .before .before .before .before .before .before .before .before .before .before .before .before .before .before .before .before .before .link-of .ensures) (c .before .before .before .before .before .before .before .before .before .before .before .before .before .before .before .before .link2 .given .1)) .2) ((reduced-by (c .before .before .before .before .before .before .before .before .before .before .before .before .before .before .strength-of .ensures) (c .before .before .before .before .before .before .before .before .before .before .before .before .reduce .ensures)) .rising (c .before .before .before .before .before .before .before .before .out .given .1))
 
 chain-loop-less : (t : ℕ) → chain-lts.Need-loop-less (chain-calls t) (chain-at t) chain.Post chain-Inv-loop chain-μ-loop
-chain-loop-less t c = turn-less (go-on ((operator-on (c .before .before .before .before .before .before .before .before .before .before .before .before .before .before .before .before .before .before .before .before .before .loop .inv .turn .place .stands) (c .before .before .before .before .before .before .before .before .before .before .before .before .before .before .before .before .before .before .before .before .link-of .ensures) (c .before .before .before .before .before .before .before .before .before .before .before .before .before .before .before .before .before .before .link2 .given .1)) .0) (moved (c .before .before .before .before .before .before .before .prefix .ensures .onward) (c .before .before .before .operand .given .1)))
+chain-loop-less t c = turn-less (go-on ((operator-on (c .before .before .before .before .before .before .before .before .before .before .before .before .before .before .before .before .before .before .before .before .loop .inv .turn .place .stands) (c .before .before .before .before .before .before .before .before .before .before .before .before .before .before .before .before .before .before .before .link-of .ensures) (c .before .before .before .before .before .before .before .before .before .before .before .before .before .before .before .before .before .link2 .given .1)) .0) (moved (c .before .before .before .before .before .before .prefix .ensures .onward) (c .before .before .operand .given .1)))
 
 chain-loop-again : (t : ℕ) → chain-lts.Need-loop-again (chain-calls t) (chain-at t) chain.Post chain-Inv-loop chain-μ-loop
-chain-loop-again t c = let v = c .before .before .before .before .before .before .before .before .before .before .before .before .before .before .before .before .before .before .before .before .before .loop .inv in let w = (go-on ((operator-on (c .before .before .before .before .before .before .before .before .before .before .before .before .before .before .before .before .before .before .before .before .before .loop .inv .turn .place .stands) (c .before .before .before .before .before .before .before .before .before .before .before .before .before .before .before .before .before .before .before .before .link-of .ensures) (c .before .before .before .before .before .before .before .before .before .before .before .before .before .before .before .before .before .before .link2 .given .1)) .0) (moved (c .before .before .before .before .before .before .before .prefix .ensures .onward) (c .before .before .before .operand .given .1))) in record { same = c .before .before .before .before .before .before .before .prefix .kept .1 .0 ∙ c .before .before .before .before .before .before .before .before .before .before .before .before .before .before .reduce .kept .0 ∙ v .same; turn = turn-on (v .turn) w; rising = rising-pushed ((operator-on (c .before .before .before .before .before .before .before .before .before .before .before .before .before .before .before .before .before .before .before .before .before .loop .inv .turn .place .stands) (c .before .before .before .before .before .before .before .before .before .before .before .before .before .before .before .before .before .before .before .before .link-of .ensures) (c .before .before .before .before .before .before .before .before .before .before .before .before .before .before .before .before .before .before .link2 .given .1)) .1) ((operator-on (c .before .before .before .before .before .before .before .before .before .before .before .before .before .before .before .before .before .before .before .before .before .loop .inv .turn .place .stands) (c .before .before .before .before .before .before .before .before .before .before .before .before .before .before .before .before .before .before .before .before .link-of .ensures) (c .before .before .before .before .before .before .before .before .before .before .before .before .before .before .before .before .before .before .link2 .given .1)) .2) ((reduced-by (c .before .before .before .before .before .before .before .before .before .before .before .before .before .before .before .before .strength-of .ensures) (c .before .before .before .before .before .before .before .before .before .before .before .before .before .before .reduce .ensures)) .rising (c .before .before .before .before .before .before .before .before .before .before .out .given .1)) (c .push .ensures); rest = λ r B d. v .rest r B (by-link (v .turn .fuel) (c .before .before .before .before .before .before .before .before .before .before .before .before .before .before .before .before .before .before .before .before .before .before .before .before .before .args .allowed) (pendingOf (c .before .before .before .before .before .before .before .before .before .before .before .before .before .before .before .before .before .before .before .before .before .loop .pending)) (c .before .before .before .before .before .before .before .before .before .before .before .before .before .before .before .before .before .before .before .before .before .loop .right) (c .before .before .before .before .before .before .before .before .before .before .before .before .before .before .before .before .before .before .before .before .before .loop .inv .turn .place .stands) (c .before .before .before .before .before .before .before .before .before .before .before .before .before .before .before .before .before .before .before .before .link-of .ensures) (c .before .before .before .before .before .before .before .before .before .before .before .before .before .before .before .before .before .before .link2 .given .1) ((reduced-by (c .before .before .before .before .before .before .before .before .before .before .before .before .before .before .before .before .strength-of .ensures) (c .before .before .before .before .before .before .before .before .before .before .before .before .before .before .reduce .ensures)) .goes _ _ _ (λ ys e. bind (prefixP (c .before .before .before .before .before .before .before .before .before .before .before .before .before .before .before .before .before .before .before .before .before .before .before .before .before .args .text .now) (c .before .before .before .before .before .before .before .before .before .before .before .before .before .before .before .before .before .before .link2 .given .0 .1 .0)) (λ q r. chainP (v .turn .fuel) (c .before .before .before .before .before .before .before .before .before .before .before .before .before .before .before .before .before .before .before .before .before .before .before .before .before .args .text .now) (c .before .before .before .before .before .before .before .before .before .before .before .before .before .before .before .before .before .before .before .before .before .before .before .before .before .args .allowed) (record { op = (c .before .before .before .before .before .before .before .before .before .before .before .before .before .before .before .before .before .before .link2 .given .0 .0); left = e } ∷ ys) r q)) (c .before .before .before .before .before .before .before .before .before .before .out .given .1) (then (told (c .before .before .before .operand .given .1) (c .before .before .before .before .before .before .before .prefix .ensures .does)) (same-pending (λ xs. chainP (v .turn .fuel) (c .before .before .before .before .before .before .before .before .before .before .before .before .before .before .before .before .before .before .before .before .before .before .before .before .before .args .text .now) (c .before .before .before .before .before .before .before .before .before .before .before .before .before .before .before .before .before .before .before .before .before .before .before .before .before .args .allowed) xs (c .before .before .before .operand .given .0 .1 .0) (c .before .before .before .operand .given .0 .0)) (c .push .ensures .list) (same-turns (λ f. chainP f (c .before .before .before .before .before .before .before .before .before .before .before .before .before .before .before .before .before .before .before .before .before .before .before .before .before .args .text .now) (c .before .before .before .before .before .before .before .before .before .before .before .before .before .before .before .before .before .before .before .before .before .before .before .before .before .args .allowed) (pendingOf (c .push .result)) (c .before .before .before .operand .given .0 .1 .0) (c .before .before .before .operand .given .0 .0)) (turn-fuel (v .turn) w) d))))) }
+chain-loop-again t c = let v = c .before .before .before .before .before .before .before .before .before .before .before .before .before .before .before .before .before .before .before .before .loop .inv in let w = (go-on ((operator-on (c .before .before .before .before .before .before .before .before .before .before .before .before .before .before .before .before .before .before .before .before .loop .inv .turn .place .stands) (c .before .before .before .before .before .before .before .before .before .before .before .before .before .before .before .before .before .before .before .link-of .ensures) (c .before .before .before .before .before .before .before .before .before .before .before .before .before .before .before .before .before .link2 .given .1)) .0) (moved (c .before .before .before .before .before .before .prefix .ensures .onward) (c .before .before .operand .given .1))) in record { same = c .before .before .before .before .before .before .prefix .kept .1 .0 ∙ c .before .before .before .before .before .before .before .before .before .before .before .before .before .reduce .kept .0 ∙ v .same; turn = turn-on (v .turn) w; rising = rising-pushed ((operator-on (c .before .before .before .before .before .before .before .before .before .before .before .before .before .before .before .before .before .before .before .before .loop .inv .turn .place .stands) (c .before .before .before .before .before .before .before .before .before .before .before .before .before .before .before .before .before .before .before .link-of .ensures) (c .before .before .before .before .before .before .before .before .before .before .before .before .before .before .before .before .before .link2 .given .1)) .1) ((operator-on (c .before .before .before .before .before .before .before .before .before .before .before .before .before .before .before .before .before .before .before .before .loop .inv .turn .place .stands) (c .before .before .before .before .before .before .before .before .before .before .before .before .before .before .before .before .before .before .before .link-of .ensures) (c .before .before .before .before .before .before .before .before .before .before .before .before .before .before .before .before .before .link2 .given .1)) .2) ((reduced-by (c .before .before .before .before .before .before .before .before .before .before .before .before .before .before .before .strength-of .ensures) (c .before .before .before .before .before .before .before .before .before .before .before .before .before .reduce .ensures)) .rising (c .before .before .before .before .before .before .before .before .before .out .given .1)) (c .push .ensures); rest = λ r B d. v .rest r B (by-link (v .turn .fuel) (c .before .before .before .before .before .before .before .before .before .before .before .before .before .before .before .before .before .before .before .before .before .before .before .before .args .allowed) (pendingOf (c .before .before .before .before .before .before .before .before .before .before .before .before .before .before .before .before .before .before .before .before .loop .pending)) (c .before .before .before .before .before .before .before .before .before .before .before .before .before .before .before .before .before .before .before .before .loop .right) (c .before .before .before .before .before .before .before .before .before .before .before .before .before .before .before .before .before .before .before .before .loop .inv .turn .place .stands) (c .before .before .before .before .before .before .before .before .before .before .before .before .before .before .before .before .before .before .before .link-of .ensures) (c .before .before .before .before .before .before .before .before .before .before .before .before .before .before .before .before .before .link2 .given .1) ((reduced-by (c .before .before .before .before .before .before .before .before .before .before .before .before .before .before .before .strength-of .ensures) (c .before .before .before .before .before .before .before .before .before .before .before .before .before .reduce .ensures)) .goes _ _ _ (λ ys e. bind (prefixP (c .before .before .before .before .before .before .before .before .before .before .before .before .before .before .before .before .before .before .before .before .before .before .before .before .args .text .now) (c .before .before .before .before .before .before .before .before .before .before .before .before .before .before .before .before .before .link2 .given .0 .1 .0)) (λ q r. chainP (v .turn .fuel) (c .before .before .before .before .before .before .before .before .before .before .before .before .before .before .before .before .before .before .before .before .before .before .before .before .args .text .now) (c .before .before .before .before .before .before .before .before .before .before .before .before .before .before .before .before .before .before .before .before .before .before .before .before .args .allowed) (waits (c .before .before .before .before .before .before .before .before .before .before .before .before .before .before .before .before .before .link2 .given .0 .0) e ∷ ys) r q)) (c .before .before .before .before .before .before .before .before .before .out .given .1) (then (told (c .before .before .operand .given .1) (c .before .before .before .before .before .before .prefix .ensures .does)) (same-pending (λ xs. chainP (v .turn .fuel) (c .before .before .before .before .before .before .before .before .before .before .before .before .before .before .before .before .before .before .before .before .before .before .before .before .args .text .now) (c .before .before .before .before .before .before .before .before .before .before .before .before .before .before .before .before .before .before .before .before .before .before .before .before .args .allowed) xs (c .before .before .operand .given .0 .1 .0) (c .before .before .operand .given .0 .0)) (c .push .ensures .list) (same-turns (λ f. chainP f (c .before .before .before .before .before .before .before .before .before .before .before .before .before .before .before .before .before .before .before .before .before .before .before .before .args .text .now) (c .before .before .before .before .before .before .before .before .before .before .before .before .before .before .before .before .before .before .before .before .before .before .before .before .args .allowed) (pendingOf (c .push .result)) (c .before .before .operand .given .0 .1 .0) (c .before .before .operand .given .0 .0)) (turn-fuel (v .turn) w) d))))) }
 
 abbrev choice-calls : ℕ → choice-lts.Claims
 choice-calls t = (expr-below t, expr.Post, need-reads.Asked, need-reads.Learnt, row-reads.Asked, row-reads.Learnt, put-reads.Asked, put-reads.Learnt)
@@ -708,7 +709,7 @@ unfolding elementP
 element-returns-2 t c = record { does = then (told (c .before .before .before .before .before .before .inner .given .1) (c .before .before .before .before .before .before .before .before .before .before .expr .ensures .does)) (by-make (rowed (c .before .before .before .before .item .ensures) (c .before .before .put .ensures))); onward = later (moved (c .before .before .before .before .before .before .before .before .before .before .expr .ensures .onward) (c .before .before .before .before .before .before .inner .given .1)) (put-on (c .before .before .put .ensures) ((moved (c .before .before .before .before .before .before .before .before .before .before .expr .ensures .onward) (c .before .before .before .before .before .before .inner .given .1)) .stands)) }
 
 abbrev expr-calls : ℕ → expr-lts.Claims
-expr-calls t = (prefix-below t, prefix.Post, chain-below t, chain.Post)
+expr-calls t = (prefix-below t, prefix.Post, link-of-reads.Asked, link-of-reads.Learnt, chain-below t, chain.Post)
 
 expr-returns : (t : ℕ) → expr-lts.Need-returns (expr-calls t) (expr-at t) expr.Post
 expr-returns t c = record { does = too-deep (c .if1 .taken); onward = refused }
@@ -732,15 +733,28 @@ expr-returns-2 : (t : ℕ) → expr-lts.Need-returns-2 (expr-calls t) (expr-at t
 unfolding grammar expressionP
 expr-returns-2 t c = record { does = enter (c .before .before .before .before .before .before .if1 .left) (halts (c .enum-told .given .1) (c .before .before .before .before .prefix .ensures .does)); onward = off (c .enum-told .given .1) }
 
+expr-link-of-requires : (t : ℕ) → expr-lts.Need-link-of-requires (expr-calls t) (expr-at t) expr.Post
+expr-link-of-requires t c κs = (moved (c .before .before .before .before .before .prefix .ensures .onward) (c .before .first .given .1) .stands)
+
+expr-enum-told-2 : (t : ℕ) → expr-lts.Need-enum-told-2 (expr-calls t) (expr-at t) expr.Post
+expr-enum-told-2 t c = search needs
+
 expr-chain-requires : (t : ℕ) → expr-lts.Need-chain-requires (expr-calls t) (expr-at t) expr.Post
-expr-chain-requires t c κs = let k = (ready-on (c .before .before .before .before .before .before .prefix .last .1 .0) (c .before .before .before .before .before .before .before .before .before .before .before .pre .1) (c .before .before .before .before .before .before .prefix .kept .1 .0) (moved (c .before .before .before .before .before .before .prefix .ensures .onward) (c .before .before .first .given .1) .stands)) in search needs
+expr-chain-requires t c κs = let k = (ready-on (c .before .before .before .before .before .before .before .before .prefix .last .1 .0) (c .before .before .before .before .before .before .before .before .before .before .before .before .before .pre .1) (c .before .before .before .before .before .before .before .before .prefix .kept .1 .0) (moved (c .before .before .before .before .before .before .before .before .prefix .ensures .onward) (c .before .before .before .before .first .given .1) .stands)) in search needs
 
 expr-same-length-2 : (t : ℕ) → expr-lts.Need-same-length-2 (expr-calls t) (expr-at t) expr.Post
 expr-same-length-2 t c = search needs
 
 expr-returns-3 : (t : ℕ) → expr-lts.Need-returns-3 (expr-calls t) (expr-at t) expr.Post
 unfolding grammar expressionP
-expr-returns-3 t c = record { does = enter (c .before .before .before .before .before .before .before .before .before .before .before .if1 .left) (then (told (c .before .before .before .before .before .first .given .1) (c .before .before .before .before .before .before .before .before .before .prefix .ensures .does)) (c .before .before .chain .ensures .does)); onward = later (moved (c .before .before .before .before .before .before .before .before .before .prefix .ensures .onward) (c .before .before .before .before .before .first .given .1)) (c .before .before .chain .ensures .onward) }
+expr-returns-3 t c = record { does = enter (c .before .before .before .before .before .before .before .before .before .before .before .before .before .if1 .left) (then (told (c .before .before .before .before .before .before .before .first .given .1) (c .before .before .before .before .before .before .before .before .before .before .before .prefix .ensures .does)) (c .before .before .chain .ensures .does)); onward = later (moved (c .before .before .before .before .before .before .before .before .before .before .before .prefix .ensures .onward) (c .before .before .before .before .before .before .before .first .given .1)) (c .before .before .chain .ensures .onward) }
+
+expr-same-length-3 : (t : ℕ) → expr-lts.Need-same-length-3 (expr-calls t) (expr-at t) expr.Post
+expr-same-length-3 t c = search needs
+
+expr-returns-4 : (t : ℕ) → expr-lts.Need-returns-4 (expr-calls t) (expr-at t) expr.Post
+unfolding grammar expressionP reduceP
+expr-returns-4 t c = record { does = enter (c .before .before .before .before .before .before .before .before .before .before .if1 .left) (then (told (c .before .before .before .before .first .given .1) (c .before .before .before .before .before .before .before .before .prefix .ensures .does)) (by-link (length (c .before .before .before .before .before .before .before .before .before .before .before .before .before .args .text .now)) false [] (c .before .before .before .before .first .given .0 .1 .0) (moved (c .before .before .before .before .before .before .before .before .prefix .ensures .onward) (c .before .before .before .before .first .given .1) .stands) (c .before .before .link-of .ensures) (c .enum-told2 .given .1) by-done)); onward = record { goes = moved (c .before .before .before .before .before .before .before .before .prefix .ensures .onward) (c .before .before .before .before .first .given .1) } }
 
 abbrev extend-calls : ℕ → extend-lts.Claims
 extend-calls t = (call-below t, call.Post, index-below t, index.Post, row-reads.Asked, row-reads.Learnt, put-reads.Asked, put-reads.Learnt)
@@ -1424,9 +1438,13 @@ pub +array+atom+call+chain+choice+dict+element+expr+extend+index+list+pair+paren
     (expr-enum-told t)
     (expr-same-length t)
     (expr-returns-2 t)
+    (expr-link-of-requires t)
+    (expr-enum-told-2 t)
     (expr-chain-requires t)
     (expr-same-length-2 t)
-    (expr-returns-3 t))
+    (expr-returns-3 t)
+    (expr-same-length-3 t)
+    (expr-returns-4 t))
     (λ t. extend-lts.spec (extend-calls t)
     (extend-at t)
     extend.Post

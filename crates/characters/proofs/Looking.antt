@@ -21,7 +21,7 @@ use Rattle.characters.specs.Blanks.{blanks}
 use Rattle.characters.specs.BlankLaws.{PassedOn, blanks-on}
 use Rattle.characters.specs.Names.{isNameByte}
 use Rattle.characters.specs.Tokens.{spells, foundBy, isToken, isKeyword, tokenPast, token, keywordPast, keyword, needed, expected}
-use Rattle.characters.specs.TokenLaws.{spells-fits}
+use Rattle.characters.specs.TokenLaws.{spells-fits, sign-token}
 
 -- ---- the bytes of a token
 
@@ -63,22 +63,6 @@ spelling-off {s} {from} {w} {i} v h l n = sym (spells-at s from w i h l ∙ rw (
 pub spelled-all : {s : Text} {from : ℕ} {w : Text} {i : ℕ} → Spelling s from w i → length w ≤ i → true ≡ spells w (drop from s)
 unfolding spells
 spelled-all {s} {from} {w} {i} v h = sym (ap (λ (x : Text). spells x (drop (from + i) s)) (drop-of-length-le w h)) ∙ v .same
-
--- a token of one byte is that byte at the front
-pub spells-one : (s : Text) (o b : ℕ) → b < 256 → spells (b ∷ []) (drop o s) ≡ eqb b (byteAt s o)
-unfolding spells
-spells-one s o b h = go (ltb o (length s)) refl
-  where
-    and-true : (t : Bool) → (t && true) ≡ t
-    and-true true = refl
-    and-true false = refl
-
-    go : (t : Bool) → ltb o (length s) ≡ t → spells (b ∷ []) (drop o s) ≡ eqb b (byteAt s o)
-    go true e = ap (spells (b ∷ [])) (drop-cons s o 256 (ltb-true o (length s) e)) ∙ and-true (eqb b (byteAt s o))
-    go false e =
-        let z : length s ≤ o = ltb-false o (length s) e in
-        let n : byteAt s o ≡ 256 = at-end s o z in
-        ap (spells (b ∷ [])) (from-end s o z) ∙ sym (ne-eqb b (byteAt s o) (λ k. omega arith))
 
 -- ---- past the blanks
 
@@ -127,12 +111,8 @@ module _ {s : Text} {at h q : Place} {r : Must} (w : Text) (v : Stands s at) (e 
     keyword-found x = ap (Found q) y ∙ ap (λ (k : Bool). foundBy (true && not k) (length w) q) (sym x) ∙ both
 
 -- the same for one byte
-module _ {s : Text} {at h q : Place} {r : Must} {b c : ℕ} (v : Stands s at) (e : r ≡ blanks s at) (f : r ≡ Taken h q) (l : b < 256) (g : ByteOf s (q .offset) c) where
-  pub sign-missing : (c ≡ b → ⊥) → Missing q ≡ token s at (b ∷ [])
-  sign-missing n = token-missing (b ∷ []) v e f (sym (spells-one s (q .offset) b l)) (ne-eqb b (byteAt s (q .offset)) (λ z. n (g .is ∙ sym z)))
-
-  pub sign-found : {n : Place} → c ≡ b → n ≡ onBy 1 q → Found q n ≡ token s at (b ∷ [])
-  sign-found {n} z y = token-found (b ∷ []) v e f (sym (spells-one s (q .offset) b l)) (eq-eqb b (byteAt s (q .offset)) (sym z ∙ g .is)) y
+pub sign-by : {s : Text} {at h q : Place} {r : Must} {b c : ℕ} {t : Look} → Stands s at → r ≡ blanks s at → r ≡ Taken h q → b < 256 → ByteOf s (q .offset) c → t ≡ foundBy (eqb b c) 1 q → t ≡ token s at (b ∷ [])
+sign-by {s} {at} {h} {q} {r} {b} {c} {t} v e f l g z = z ∙ ap (λ (x : ℕ). foundBy (eqb b x) 1 q) (g .is) ∙ sym (sign-token s at l (sym f ∙ e))
 
 pub token-halts : (s : Text) (at q : Place) (k : Refusal) (r : Must) (w : Text) → r ≡ blanks s at → r ≡ Failed k q → Halted k q ≡ token s at w
 unfolding token

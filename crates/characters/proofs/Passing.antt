@@ -13,8 +13,8 @@ use Rattle.characters.specs.declared.tokens.Must.{Must}
 use Rattle.characters.specs.declared.tokens.Must.the-variants.{Taken, Failed}
 use Rattle.characters.specs.Text.{Text, byteAt, ByteOf, onBy, lineOn, past, Stands, start}
 use Rattle.characters.specs.PlaceLaws.{Advanced, Reached, reached-here, reached-on, advanced-reached, past-line, past-low, past-offset, onBy-stands}
-use Rattle.characters.specs.Blanks.{isBlank, Mode, between, line, block, out, blanks, lineEnd, fileStart}
-use Rattle.characters.specs.BlankLaws.{passFrom, over-blank, opens-line, opens-block, deeper, closes, in-block, at-token, at-slash, unclosed, out-in, by-line, lineEnd-on, lineEnd-in, lineEnd-lf, lineEnd-end, Closes}
+use Rattle.characters.specs.Blanks.{isBlank, Mode, between, line, block, out, blanks, spaces, lineEnd, fileStart}
+use Rattle.characters.specs.BlankLaws.{passFrom, over-blank, spaces-on, spaces-end, over-spaces, opens-line, opens-block, deeper, closes, in-block, at-token, at-slash, unclosed, out-in, by-line, lineEnd-on, lineEnd-in, lineEnd-lf, lineEnd-end, Closes, spaced, spaced-stands}
 use Rattle.characters.proofs.Places.{ended, not-ended, byte-in, stepped}
 
 -- ---- a line
@@ -117,6 +117,26 @@ block-closed {s} {at} {p} {q} {d} {b} {c} v e k f l z n =
 pub block-fails : {s : Text} {at p : Place} {d b : ℕ} → InBlock s at p d → ByteOf s (p .offset) b → b ≡ 256 → Closes s at (Failed EndOfInput p)
 block-fails {s} {at} {p} {d} {b} v e k = record { goes = λ x. sym (v .same x) ∙ unclosed s x p d (ended e k) }
 
+-- ---- spaces
+
+-- those that are counted and those that are left are all
+pub record InSpaces (s : Text) (from o : ℕ) : Type 0 where
+  pub same : o + spaces s o ≡ from + spaces s from
+  pub further : from ≤ o
+
+module _ {s : Text} {o b : ℕ} (e : ByteOf s o b) where
+  some-space : b ≡ 32 → spaces s o ≡ suc (spaces s (o + 1))
+  some-space k = spaces-on s o (sym (e .is) ∙ k)
+
+  pub space-step : {from : ℕ} → InSpaces s from o → b ≡ 32 → InSpaces s from (o + 1)
+  space-step v k = let z = some-space k in record { same = omega arith; further = omega arith }
+
+  pub space-out : {from : ℕ} → InSpaces s from o → (b ≡ 32 → ⊥) → o - from ≡ spaces s from
+  space-out {from} v n = let z = spaces-end s o (λ h. n (e .is ∙ h)) in omega arith
+
+  pub space-here : {n : ℕ} → b ≡ 32 → n ≡ spaces s o → 0 < n
+  space-here k f = let z = some-space k in omega arith
+
 -- ---- blanks
 
 -- the blanks from p on are the rest of those from `at` on
@@ -134,6 +154,10 @@ blank-step {s} {at} {p} {q} {b} v e l k z = record { same = ap (passFrom s at be
 -- a blank that starts no line
 pub blank-on : {s : Text} {at p q : Place} {b : ℕ} → InBlanks s at p → ByteOf s (p .offset) b → isBlank b ≡ true → b < 128 → (b ≡ 10 → ⊥) → q ≡ onBy 1 p → InBlanks s at q
 blank-on {s} {at} {p} {q} {b} v e k l n z = blank-step v e (omega arith) k (z ∙ sym (past-low b p n l))
+
+-- a run of spaces
+pub blank-spaces : {s : Text} {at p q : Place} {n : ℕ} → InBlanks s at p → n ≡ spaces s (p .offset) → q ≡ onBy n p → InBlanks s at q
+blank-spaces {s} {at} {p} v e z = record { same = ap (passFrom s at between) (spaced s p e z) ∙ sym (over-spaces s at p) ∙ v .same; stands = spaced-stands (v .stands) e z }
 
 pub blank-line : {s : Text} {at p q : Place} {b : ℕ} → InBlanks s at p → ByteOf s (p .offset) b → b ≡ 10 → q ≡ lineOn p → InBlanks s at q
 blank-line {s} {at} {p} {q} {b} v e n z = blank-step v e (omega arith) (ap isBlank n) (z ∙ sym (past-line b p n))
@@ -162,9 +186,6 @@ token-here {s} {at} {p} {b} v e k n = sym (at-token s at p b (e .is) k n) ∙ v 
 
 pub slash-here : {s : Text} {at p : Place} {b c : ℕ} → InBlanks s at p → ByteOf s (p .offset) b → b ≡ 47 → ByteOf s (p .offset + 1) c → (c ≡ 47 → ⊥) → (c ≡ 42 → ⊥) → Taken at p ≡ blanks s at
 slash-here {s} {at} {p} {b} {c} v e k f n m = sym (at-slash s at p (sym (e .is) ∙ k) (λ h. n (f .is ∙ h)) (λ h. m (f .is ∙ h))) ∙ v .same
-
-pub not-blank : (b : ℕ) → (b ≡ 32 → ⊥) → (b ≡ 9 → ⊥) → (b ≡ 10 → ⊥) → (b ≡ 12 → ⊥) → (b ≡ 13 → ⊥) → isBlank b ≡ false
-not-blank b m n o p q = rw (ne-eqb b 32 m, ne-eqb b 9 n, ne-eqb b 10 o, ne-eqb b 12 p, ne-eqb b 13 q)
 
 -- ---- the file form
 

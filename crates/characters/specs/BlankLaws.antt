@@ -6,16 +6,17 @@ use Prim.Native.Nat.{ℕ, zero, suc, _+_, _-_, _≤_, _<_}
 use native.Mathlib.Omega.{arith}
 use native.Mathlib.Numerals.{add-one, sub-one}
 use lib.Dec.{eqb, ltb}
-use lib.ListN.{length, drop, drop-of-length-le}
-use borrow.Author.Tests.{eq-eqb, ne-eqb, eqb-true, ltb-true, ltb-false}
+use lib.ListN.{length, drop, drop-of-length-le, length-drop}
+use lib.Seq.{drop-cons, drop-drop}
+use borrow.Author.Tests.{eq-eqb, ne-eqb, eqb-true, eqb-false, ltb-true, ltb-false}
 use Rattle.characters.specs.declared.place.Place.{Place}
 use Rattle.characters.specs.declared.refusal.Refusal.{Refusal}
 use Rattle.characters.specs.declared.refusal.Refusal.the-variants.{EndOfInput}
 use Rattle.characters.specs.declared.tokens.Must.{Must}
 use Rattle.characters.specs.declared.tokens.Must.the-variants.{Taken, Failed}
-use Rattle.characters.specs.Text.{Text, byteAt, onBy, past, Stands, start}
-use Rattle.characters.specs.PlaceLaws.{Reached, Advanced, reached-here, reached-on, advanced-on, advanced-reached, in-text, at-end, from-byte, from-end, front, past-low, past-offset, past-stands, onBy-onBy}
-use Rattle.characters.specs.Blanks.{isBlank, begins, Mode, between, line, block, passing, out, pass, blanks, lineEnd}
+use Rattle.characters.specs.Text.{Text, byteAt, ByteOf, onBy, past, Stands, start}
+use Rattle.characters.specs.PlaceLaws.{Reached, Advanced, reached-here, reached-on, advanced-on, advanced-reached, in-text, at-end, from-byte, from-end, front, past-low, past-offset, past-stands, onBy-stands, onBy-none, onBy-onBy}
+use Rattle.characters.specs.Blanks.{isBlank, begins, Mode, between, line, block, passing, out, pass, blanks, spacesIn, spaces, opensBlank, lineEnd}
 
 -- the blanks that began at `at`, from the place p on
 abbrev pub passFrom : Text → Place → Mode → Place → Must
@@ -136,7 +137,7 @@ module _ (s : Text) (at p : Place) where
     where
       go : (t : Bool) → ltb (p .offset) (length s) ≡ t → passFrom s at between p ≡ Taken at p
       go true t =
-          ap (λ (x : Text). pass at between x p) (lib.Seq.drop-cons s (p .offset) 256 (ltb-true (p .offset) (length s) t))
+          ap (λ (x : Text). pass at between x p) (drop-cons s (p .offset) 256 (ltb-true (p .offset) (length s) t))
           ∙ ap (λ (x : ℕ). pass at between (x ∷ drop (suc (p .offset)) s) p) (sym e)
           ∙ pass-token at b (drop (suc (p .offset)) s) p z (no-first 47 47 b (drop (suc (p .offset)) s) n) (no-first 47 42 b (drop (suc (p .offset)) s) n)
       go false t = ap (λ (x : Text). pass at between x p) (from-end s (p .offset) (ltb-false (p .offset) (length s) t))
@@ -154,6 +155,106 @@ module _ (s : Text) (at p : Place) where
 pub out-in : (d : ℕ) → (d ≡ 0 → ⊥) → out d ≡ block (d - 1)
 out-in zero h = absurd (h refl)
 out-in (suc d) h = ap block (sym (sub-one (suc d)))
+
+pub not-blank : (b : ℕ) → (b ≡ 32 → ⊥) → (b ≡ 9 → ⊥) → (b ≡ 10 → ⊥) → (b ≡ 12 → ⊥) → (b ≡ 13 → ⊥) → isBlank b ≡ false
+not-blank b m n o p q = rw (ne-eqb b 32 m, ne-eqb b 9 n, ne-eqb b 10 o, ne-eqb b 12 p, ne-eqb b 13 q)
+
+-- a byte that opens no blank
+opens-none : (b : ℕ) → opensBlank b ≡ false → (33 ≤ b) × (b ≡ 47 → ⊥)
+opens-none b e = go (ltb b 33) refl e
+  where
+    go : (t : Bool) → ltb b 33 ≡ t → (t || eqb b 47) ≡ false → (33 ≤ b) × (b ≡ 47 → ⊥)
+    go true z f = let w : _≡_ {A = ℕ} 0 1 = cc in absurd (omega arith)
+    go false z f = (ltb-false b 33 z, eqb-false b 47 f)
+
+-- ---- plain spaces
+
+spaces-yes : (b : ℕ) (l : Text) → b ≡ 32 → spacesIn (b ∷ l) ≡ suc (spacesIn l)
+unfolding spacesIn
+spaces-yes b l e = rw (eq-eqb b 32 e, spacesIn) refl
+
+spaces-no : (b : ℕ) (l : Text) → (b ≡ 32 → ⊥) → spacesIn (b ∷ l) ≡ zero
+unfolding spacesIn
+spaces-no b l n = rw (ne-eqb b 32 n, spacesIn) refl
+
+spaces-fit : (l : Text) → spacesIn l ≤ length l
+unfolding spacesIn
+spaces-fit [] = omega arith
+spaces-fit (b ∷ l) = go (eqb b 32) (spaces-fit l)
+  where
+    go : (t : Bool) → spacesIn l ≤ length l → elim t as (λ u. ℕ) [ true ↦ suc (spacesIn l) | false ↦ zero ] ≤ suc (length l)
+    go true h = omega arith
+    go false h = omega arith
+
+-- the spaces that a text begins with are passed
+pass-spaces : (at : Place) (l : Text) (p : Place) → pass at between l p ≡ pass at between (drop (spacesIn l) l) (onBy (spacesIn l) p)
+unfolding spacesIn
+pass-spaces at [] p = ap (pass at between []) (sym (onBy-none p))
+pass-spaces at (b ∷ l) p = go (eqb b 32) refl (pass-spaces at l (onBy 1 p))
+  where
+    go : (t : Bool) → eqb b 32 ≡ t → pass at between l (onBy 1 p) ≡ pass at between (drop (spacesIn l) l) (onBy (spacesIn l) (onBy 1 p))
+        → pass at between (b ∷ l) p ≡ (let n : ℕ = elim t as (λ u. ℕ) [ true ↦ suc (spacesIn l) | false ↦ zero ] in pass at between (drop n (b ∷ l)) (onBy n p))
+    go true e ih =
+        let z : b ≡ 32 = eqb-true b 32 e in
+        pass-blank at b l p (ap isBlank z)
+        ∙ ap (pass at between l) (past-low b p (λ h. omega arith) (omega arith))
+        ∙ ih
+        ∙ ap (pass at between (drop (spacesIn l) l)) (onBy-onBy 1 (spacesIn l) p ∙ ap (λ (n : ℕ). onBy n p) (let z : 1 + spacesIn l ≡ suc (spacesIn l) = omega arith in z))
+    go false e ih = ap (pass at between (b ∷ l)) (sym (onBy-none p))
+
+module _ (s : Text) where
+  -- one space of several, and their end
+  pub spaces-on : (o : ℕ) → byteAt s o ≡ 32 → spaces s o ≡ suc (spaces s (o + 1))
+  spaces-on o e = ap spacesIn (from-byte s o 32 (sym e) (omega arith)) ∙ spaces-yes 32 (drop (o + 1) s) refl
+
+  pub spaces-end : (o : ℕ) → (byteAt s o ≡ 32 → ⊥) → spaces s o ≡ zero
+  unfolding spacesIn
+  spaces-end o n = go (ltb o (length s)) refl
+    where
+      go : (t : Bool) → ltb o (length s) ≡ t → spaces s o ≡ zero
+      go true t = ap spacesIn (drop-cons s o 256 (ltb-true o (length s) t)) ∙ spaces-no (byteAt s o) (drop (suc o) s) n
+      go false t = ap spacesIn (from-end s o (ltb-false o (length s) t))
+
+  pub over-spaces : (at p : Place) → passFrom s at between p ≡ passFrom s at between (onBy (spaces s (p .offset)) p)
+  over-spaces at p =
+      pass-spaces at (drop (p .offset) s) p
+      ∙ ap (λ (l : Text). pass at between l (onBy (spaces s (p .offset)) p)) (drop-drop (spaces s (p .offset)) (p .offset) s)
+
+-- the place past the spaces
+pub spaces-stands : {s : Text} {p : Place} → Stands s p → Stands s (onBy (spaces s (p .offset)) p)
+spaces-stands {s} {p} h =
+    let f = spaces-fit (drop (p .offset) s) in
+    let d = length-drop (p .offset) s in
+    let i : p .offset ≤ length s = h .inside in
+    onBy-stands s (spaces s (p .offset)) p h (omega arith) .stands
+
+-- where no blank begins past the spaces, they are all the blanks
+pub spaces-blanks : (s : Text) (p : Place) → opensBlank (byteAt s (p .offset + spaces s (p .offset))) ≡ false → blanks s p ≡ Taken p (onBy (spaces s (p .offset)) p)
+unfolding blanks
+spaces-blanks s p e =
+    let b : ℕ = byteAt s (p .offset + spaces s (p .offset)) in
+    let n = opens-none b e in
+    let h : 33 ≤ b = n .0 in
+    over-spaces s p p
+    ∙ at-token s p (onBy (spaces s (p .offset)) p) b refl (not-blank b (λ z. omega arith) (λ z. omega arith) (λ z. omega arith) (λ z. omega arith) (λ z. omega arith)) (n .1)
+
+-- the same of what code holds: a count of spaces, the place past them and the byte there
+pub spaced : (s : Text) (p : Place) {q : Place} {n : ℕ} → n ≡ spaces s (p .offset) → q ≡ onBy n p → q ≡ onBy (spaces s (p .offset)) p
+spaced s p e z = z ∙ ap (λ (k : ℕ). onBy k p) e
+
+pub spaced-stands : {s : Text} {p q : Place} {n : ℕ} → Stands s p → n ≡ spaces s (p .offset) → q ≡ onBy n p → Stands s q
+spaced-stands {s} {p} h e z = subst⁻¹ (Stands s) (spaced s p e z) (spaces-stands h)
+
+pub only-spaces : {s : Text} {at q : Place} {n c : ℕ} {t : Bool} → n ≡ spaces s (at .offset) → q ≡ onBy n at → ByteOf s (q .offset) c → t ≡ opensBlank c → t ≡ false → Taken at q ≡ blanks s at
+only-spaces {s} {at} e z g f h = ap (Taken at) (spaced s at e z) ∙ sym (spaces-blanks s at (ap (λ (x : Place). opensBlank (byteAt s (x .offset))) (sym (spaced s at e z)) ∙ ap opensBlank (sym (g .is)) ∙ sym f ∙ h))
+
+-- where no blank begins, there are none
+pub bare : {s : Text} {q : Place} {c : ℕ} {t : Bool} → ByteOf s (q .offset) c → t ≡ opensBlank c → t ≡ false → Taken q q ≡ blanks s q
+bare {s} {q} {c} g f h =
+    let n : opensBlank (byteAt s (q .offset)) ≡ false = ap opensBlank (sym (g .is)) ∙ sym f ∙ h in
+    let m = opens-none (byteAt s (q .offset)) n in
+    let l : 33 ≤ byteAt s (q .offset) = m .0 in
+    only-spaces (sym (spaces-end s (q .offset) (λ z. omega arith))) (sym (onBy-none q)) g f h
 
 -- ---- where blanks end
 
@@ -177,7 +278,7 @@ rest s o b l e = go (ltb o (length s)) refl
     go : (t : Bool) → ltb o (length s) ≡ t → (o < length s) × (l ≡ drop (o + 1) s)
     go true t =
         let h : o < length s = ltb-true o (length s) t in
-        let f : b ∷ l ≡ byteAt s o ∷ drop (suc o) s = e ∙ lib.Seq.drop-cons s o 256 h in
+        let f : b ∷ l ≡ byteAt s o ∷ drop (suc o) s = e ∙ drop-cons s o 256 h in
         (h, (let g : l ≡ drop (suc o) s = cc in g) ∙ ap (λ (k : ℕ). drop k s) (sym (add-one o)))
     go false t = let z : b ∷ l ≡ [] = e ∙ from-end s o (ltb-false o (length s) t) in let w : _≡_ {A = ℕ} 0 1 = cc in absurd (omega arith)
 

@@ -2,7 +2,7 @@
 use mathlib.Core.Bool.{Bool, true, false, _&&_, _||_}
 use mathlib.Core.List.{List, [], _∷_}
 use Prim.Native.Nat.{ℕ, zero, suc}
-use lib.Dec.{eqb}
+use lib.Dec.{eqb, ltb}
 use lib.ListN.{drop}
 use Rattle.characters.specs.declared.place.Place.{Place}
 use Rattle.characters.specs.declared.refusal.Refusal.the-variants.{EndOfInput}
@@ -56,6 +56,19 @@ pass at (passing m) (b ∷ s) p = pass at m s (past b p)
 -- the blanks at a place: where they begin and the place after them, or 19
 unfoldable pub blanks : Text → Place → Must
 blanks s p = pass p between (drop (p .offset) s) p
+
+-- how many plain spaces a text begins with
+unfoldable pub spacesIn : Text → ℕ
+spacesIn [] = zero
+spacesIn (b ∷ s) = elim (eqb b 32) [ true ↦ suc (spacesIn s) | false ↦ zero ]
+
+-- and how many stand from an offset on
+abbrev pub spaces : Text → ℕ → ℕ
+spaces s o = spacesIn (drop o s)
+
+-- may a blank begin with this byte? A comment begins with `/`, and every other blank is at most a space
+abbrev pub opensBlank : ℕ → Bool
+opensBlank b = ltb b 33 || eqb b 47
 
 -- past the LF that ends a line, or at the end of the text
 unfoldable pub lineEnd : Text → Place → Place

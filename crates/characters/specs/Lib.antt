@@ -9,6 +9,8 @@ pub mod PlaceLaws
 pub mod Utf8Laws
 pub mod Utf8Lead
 pub mod BlankLaws
+pub mod AlikeLaws
+pub mod BlankStable
 pub mod NameLaws
 pub mod TokenLaws
 pub mod Utf8Ex

@@ -119,6 +119,12 @@ onBy-stands s n p h l =
     let c : p .column ≤ p .offset + 1 = h .columns in
     record { stands = record { short = h .short; inside = l; lines = omega arith; columns = omega arith }; further = omega arith }
 
+pub onBy-none : (p : Place) → onBy zero p ≡ p
+onBy-none p =
+    let e : p .offset + 0 ≡ p .offset = omega arith in
+    let f : p .column + 0 ≡ p .column = omega arith in
+    λ i. record { offset = e i; line = p .line; column = f i }
+
 pub onBy-onBy : (m n : ℕ) (p : Place) → onBy n (onBy m p) ≡ onBy (m + n) p
 onBy-onBy m n p =
     let e : p .offset + m + n ≡ p .offset + (m + n) = omega arith in

@@ -6,6 +6,8 @@ use Prim.Native.Nat.{ℕ, zero, suc, _+_, _-_, _≤_, _<_}
 use native.Mathlib.Omega.{arith}
 use lib.Dec.{eqb, ltb}
 use lib.ListN.{length, getD, drop, length-drop}
+use lib.Seq.{drop-cons}
+use borrow.Author.Tests.{ne-eqb, ltb-true, ltb-false}
 use Rattle.characters.specs.declared.place.Place.{Place}
 use Rattle.characters.specs.declared.refusal.Refusal.the-variants.{EndOfInput}
 use Rattle.characters.specs.declared.tokens.Look.{Look}
@@ -13,7 +15,7 @@ use Rattle.characters.specs.declared.tokens.Look.the-variants.{Found, Mi
 use Rattle.characters.specs.declared.tokens.Must.{Must}
 use Rattle.characters.specs.declared.tokens.Must.the-variants.{Taken, Failed}
 use Rattle.characters.specs.Text.{Text, byteAt, onBy, Stands}
-use Rattle.characters.specs.PlaceLaws.{Reached, onBy-stands}
+use Rattle.characters.specs.PlaceLaws.{Reached, at-end, from-end, onBy-stands}
 use Rattle.characters.specs.Blanks.{blanks}
 use Rattle.characters.specs.BlankLaws.{PassedOn, blanks-on}
 use Rattle.characters.specs.Names.{isNameByte}
@@ -62,3 +64,25 @@ keyword-on s p w h = go (blanks s p) (blanks-on s p h)
     go : (r : Must) → PassedOn s p p r → TokenOn s p w (keywordPast s w r)
     go (Taken a q) g = found-on s p q w (isKeyword s q w) (g .1) (left (isToken s q w) (not (isNameByte (byteAt s (q .offset + length w)))))
     go (Failed k q) g = g .0
+
+-- ---- tokens of one byte
+
+-- a token of one byte is that byte at the front
+pub spells-one : (s : Text) (o b : ℕ) → b < 256 → spells (b ∷ []) (drop o s) ≡ eqb b (byteAt s o)
+unfolding spells
+spells-one s o b h = go (ltb o (length s)) refl
+  where
+    and-true : (t : Bool) → (t && true) ≡ t
+    and-true true = refl
+    and-true false = refl
+
+    go : (t : Bool) → ltb o (length s) ≡ t → spells (b ∷ []) (drop o s) ≡ eqb b (byteAt s o)
+    go true e = ap (spells (b ∷ [])) (drop-cons s o 256 (ltb-true o (length s) e)) ∙ and-true (eqb b (byteAt s o))
+    go false e =
+        let z : length s ≤ o = ltb-false o (length s) e in
+        let n : byteAt s o ≡ 256 = at-end s o z in
+        ap (spells (b ∷ [])) (from-end s o z) ∙ sym (ne-eqb b (byteAt s o) (λ k. omega arith))
+
+pub sign-token : (s : Text) (at : Place) {h q : Place} {b : ℕ} → b < 256 → Taken h q ≡ blanks s at → token s at (b ∷ []) ≡ foundBy (eqb b (byteAt s (q .offset))) 1 q
+unfolding token
+sign-token s at {h} {q} {b} l e = ap (tokenPast s (b ∷ [])) (sym e) ∙ ap (λ (u : Bool). foundBy u 1 q) (spells-one s (q .offset) b l)

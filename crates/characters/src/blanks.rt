@@ -4,10 +4,10 @@ use crate::place::byte;
 use crate::refusal::Refusal;
 use crate::tokens::Must;
 ghost use mathlib.Core.Path.{_≡_};
-ghost use Prim.Native.Nat.{_+_};
-ghost use lib.ListN.{drop};
+ghost use Prim.Native.Nat.{_+_, _<_, _^_};
+ghost use lib.ListN.{drop, length};
 ghost use Rattle.characters.specs.Text.{Stands, byteAt, start};
-ghost use Rattle.characters.specs.Blanks.{blanks, fileStart, lineEnd};
+ghost use Rattle.characters.specs.Blanks.{blanks, fileStart, lineEnd, opensBlank, spaces};
 ghost use Rattle.characters.specs.BlankLaws.{Closes};
 
 // Past the blanks at `at`, or 19 where a comment does not end.
@@ -20,7 +20,8 @@ pub fn skip(text: &[u8], at: Place) -> Must
         let b = byte(text, p.offset);
         match b {
             32 => {
-                p = p.on(1);
+                let n = spaces(text, p.offset);
+                p = p.on(n);
             }
             10 => {
                 p = p.line_on();
@@ -62,6 +63,28 @@ pub fn skip(text: &[u8], at: Place) -> Must
             }
         }
     }
+}
+
+// How many plain spaces stand from `from` on.
+pub fn spaces(text: &[u8], from: u32) -> u32
+    requires { ⌜ length (now text) < 2 ^ 31 ⌝ }
+    ensures { λ r. ⌜ r ≡ spaces (now (text .entry)) from ⌝ }
+{
+    let mut o = from;
+    while byte(text, o) == 32 {
+        o += 1;
+    }
+    o - from
+}
+
+// May a blank begin with this byte? Where not, there is nothing to skip.
+pub fn opens_blank(b: u32) -> bool
+    ensures { λ r. ⌜ r ≡ opensBlank b ⌝ }
+{
+    if b < 33 {
+        return true;
+    }
+    b == 47
 }
 
 // Past the line's LF, or at the end of the text.

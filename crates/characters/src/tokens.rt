@@ -1,15 +1,18 @@
 // Tokens and keywords: one leaf skips the blanks, tests and steps.
+use crate::blanks::opens_blank;
 use crate::blanks::skip;
+use crate::blanks::spaces;
 use crate::names::is_name_byte;
 use crate::place::Place;
 use crate::place::byte;
 use crate::refusal::Refusal;
 ghost use mathlib.Core.Path.{_≡_};
 ghost use mathlib.Core.List.{[], _∷_};
-ghost use Prim.Native.Nat.{_≤_};
+ghost use Prim.Native.Nat.{_+_, _≤_, _<_, _^_};
+ghost use lib.Dec.{eqb};
 ghost use lib.ListN.{drop, length};
 ghost use Rattle.characters.specs.Text.{Stands};
-ghost use Rattle.characters.specs.Tokens.{expected, keyword, spells, token};
+ghost use Rattle.characters.specs.Tokens.{expected, foundBy, keyword, spells, token};
 
 // What is looked for may be there: a token at `here` with the place after it, or the place where it is not, or a refusal.
 pub enum Look {
@@ -108,27 +111,38 @@ pub fn expect(text: &[u8], at: Place, w: &[u8]) -> Must
     }
 }
 
-// The token of the one byte `b` past the blanks: no word to walk.
+// The token of the one byte `b` past the blanks: no word to walk, and mostly no blank but spaces.
 pub fn sign(text: &[u8], at: Place, b: u8) -> Look
     requires { ⌜ Stands (now text) at ⌝ }
     ensures { λ r. ⌜ r ≡ token (now (text .entry)) at (b ∷ []) ⌝ }
 {
+    let n = spaces(text, at.offset);
+    let near = at.on(n);
+    let first = byte(text, near.offset);
+    if !opens_blank(first) {
+        return sign_at(near, first, b);
+    }
     let blanks = skip(text, at);
     match blanks {
         Must::Failed { refusal, at: q } => Look::Halted { refusal, at: q },
         Must::Taken { here: _, next } => {
-            let wanted = b as u32;
             let stands = byte(text, next.offset);
-            if stands != wanted {
-                return Look::Missing { here: next };
-            }
-            let after = next.on(1);
-            Look::Found {
-                here: next,
-                next: after,
-            }
+            sign_at(next, stands, b)
         }
     }
+}
+
+// The token of the one byte `b` at `here`, by the byte that stands there.
+fn sign_at(here: Place, stands: u32, b: u8) -> Look
+    requires { ⌜ (here .offset + 1 < 2 ^ 32) × (here .column + 1 < 2 ^ 32) ⌝ }
+    ensures { λ r. ⌜ r ≡ foundBy (eqb b stands) 1 here ⌝ }
+{
+    let wanted = b as u32;
+    if wanted != stands {
+        return Look::Missing { here };
+    }
+    let next = here.on(1);
+    Look::Found { here, next }
 }
 
 // The token of the one byte `b` past the blanks, or 10.

@@ -10,19 +10,19 @@ use lib.ListN.{length, drop, length-drop}
 use borrow.Author.Tests.{eq-eqb, ne-eqb}
 use Rattle.characters.specs.declared.place.Place.{Place}
 use Rattle.characters.specs.declared.refusal.Refusal.{Refusal}
-use Rattle.characters.specs.declared.refusal.Refusal.the-variants.{EndOfInput, PostfixIncrement, IncrementAsExpression}
+use Rattle.characters.specs.declared.refusal.Refusal.the-variants.{EndOfInput, ExpectedToken, PostfixIncrement, IncrementAsExpression}
 use Rattle.characters.specs.declared.tokens.Look.{Look}
 use Rattle.characters.specs.declared.tokens.Look.the-variants.{Found, Missing, Halted}
 use Rattle.characters.specs.declared.tokens.Must.{Must}
 use Rattle.characters.specs.declared.tokens.Must.the-variants.{Taken, Failed}
 use Rattle.characters.specs.Text.{Text, byteAt, ByteOf, ascii, onBy, Stands}
 use Rattle.characters.specs.PlaceLaws.{front, onBy-stands}
-use Rattle.characters.specs.Blanks.{blanks}
-use Rattle.characters.specs.BlankLaws.{PassedOn, blanks-on}
+use Rattle.characters.specs.Blanks.{blanks, opensBlank}
+use Rattle.characters.specs.BlankLaws.{PassedOn, blanks-on, bare}
 use Rattle.characters.specs.Names.{isNameByte, name}
 use Rattle.characters.specs.NameLaws.{NamedOn, name-on}
-use Rattle.characters.specs.Tokens.{spells, isKeyword, token, expected}
-use Rattle.characters.specs.TokenLaws.{spells-fits, TokenOn, token-on}
+use Rattle.characters.specs.Tokens.{spells, foundBy, isKeyword, token, needed, expected}
+use Rattle.characters.specs.TokenLaws.{spells-fits, TokenOn, token-on, sign-token}
 use Rattle.literals.specs.Strings.{isQuote, string}
 use Rattle.records.specs.Words.{spanWord}
 use Rattle.grammar.specs.declared.leaves.Prefix.{Prefix}
@@ -30,6 +30,7 @@ use Rattle.grammar.specs.declared.leaves.Prefix.the-variants as prefix
 use Rattle.grammar.specs.declared.leaves.Postfix.{Postfix}
 use Rattle.grammar.specs.declared.leaves.Postfix.the-variants as post
 use Rattle.grammar.specs.declared.leaves.Suffix.the-variants as suffix
+use Rattle.grammar.specs.LeafLaws.{followAt}
 use Rattle.grammar.specs.Leaves.{prefixBy, prefixPast, prefixOf, memberBy, instanceBy, instancePast, postfixBy, postfixPast, postfixOf, closeBy, closePast, closeOf, commaBy, followBy, followOf, keyAt}
 
 pub passed : {s : Text} {at h q : Place} {r : Must} → Stands s at → r ≡ blanks s at → r ≡ Taken h q → Stands s q
@@ -248,18 +249,29 @@ unfolding closeOf
 close-halts {s} end v e f = ap (closePast s end) (sym f ∙ e)
 
 module _ {s : Text} {at h q : Place} {r : Must} {b : ℕ} (end : ℕ) (v : Stands s at) (e : r ≡ blanks s at) (f : r ≡ Taken h q) (g : ByteOf s (q .offset) b) where
-  close-by : closeBy b end q ≡ closeOf s at end
+  pub close-by : {x : Look} → x ≡ closeBy b end q → x ≡ closeOf s at end
   unfolding closeOf
-  close-by = ap (λ (x : ℕ). closeBy x end q) (g .is) ∙ ap (closePast s end) (sym f ∙ e)
+  close-by z = z ∙ ap (λ (x : ℕ). closeBy x end q) (g .is) ∙ ap (closePast s end) (sym f ∙ e)
 
-  pub close-ended : b ≡ 256 → Halted EndOfInput q ≡ closeOf s at end
-  close-ended z = ap (λ (x : ℕ). closeBy x end q) (sym z) ∙ close-by
+-- by the byte that stands there
+module _ (b end : ℕ) (q : Place) where
+  pub close-ended : b ≡ 256 → Halted EndOfInput q ≡ closeBy b end q
+  close-ended z = ap (λ (x : ℕ). closeBy x end q) (sym z)
 
-  pub close-missing : (b ≡ 256 → ⊥) → (b ≡ end → ⊥) → Missing q ≡ closeOf s at end
-  close-missing m n = let z : Missing q ≡ closeBy b end q = rw (ne-eqb b 256 m, ne-eqb b end n, closeBy) refl in z ∙ close-by
+  pub close-missing : (b ≡ 256 → ⊥) → (b ≡ end → ⊥) → Missing q ≡ closeBy b end q
+  close-missing m n = rw (ne-eqb b 256 m, ne-eqb b end n, closeBy) refl
 
-  pub close-found : {n : Place} → (b ≡ 256 → ⊥) → b ≡ end → n ≡ onBy 1 q → Found q n ≡ closeOf s at end
-  close-found m z y = let w : Found q (onBy 1 q) ≡ closeBy b end q = rw (ne-eqb b 256 m, eq-eqb b end z, closeBy) refl in ap (Found q) y ∙ w ∙ close-by
+  pub close-found : {n : Place} → (b ≡ 256 → ⊥) → b ≡ end → n ≡ onBy 1 q → Found q n ≡ closeBy b end q
+  close-found m z y = let w : Found q (onBy 1 q) ≡ closeBy b end q = rw (ne-eqb b 256 m, eq-eqb b end z, closeBy) refl in ap (Found q) y ∙ w
+
+  pub follow-found : {n : Place} → b ≡ end → n ≡ onBy 1 q → Found q n ≡ followAt b end q
+  follow-found z y = let w : Found q (onBy 1 q) ≡ followAt b end q = rw (eq-eqb end b (sym z), followAt) refl in ap (Found q) y ∙ w
+
+  pub follow-comma : {n : Place} → (b ≡ end → ⊥) → b ≡ 44 → n ≡ onBy 1 q → Missing n ≡ followAt b end q
+  follow-comma m z y = let w : Missing (onBy 1 q) ≡ followAt b end q = rw (ne-eqb end b (λ k. m (sym k)), eq-eqb 44 b (sym z), followAt) refl in ap Missing y ∙ w
+
+  pub follow-none : (b ≡ end → ⊥) → (b ≡ 44 → ⊥) → Halted ExpectedToken q ≡ followAt b end q
+  follow-none m n = rw (ne-eqb end b (λ k. m (sym k)), ne-eqb 44 b (λ k. n (sym k)), followAt) refl
 
 -- ---- dictionary keys
 
@@ -285,3 +297,20 @@ comma-by {s} {p} {h} {l} {m} {x} b v e f g k = ap commaBy (sym k ∙ g) ∙ foll
 
 pub missing-stands : {s : Text} {p h : Place} {l : Look} (b : ℕ) → Stands s p → l ≡ token s p (b ∷ []) → l ≡ Missing h → Stands s h
 missing-stands {s} {p} {h} {l} b v e f = subst (TokenOn s p (b ∷ [])) (sym e ∙ f) (token-on s p (b ∷ []) v) .stands
+
+-- past the spaces stands no blank: one byte decides
+pub follow-near : {s : Text} {at q : Place} {c end : ℕ} {t : Bool} {x : Look} → Stands s at → Taken at q ≡ blanks s at → ByteOf s (q .offset) c → t ≡ opensBlank c → t ≡ false → end < 256
+    → x ≡ followAt c end q → x ≡ followOf s at end
+unfolding followOf expected
+follow-near {s} {at} {q} {c} {end} v e g f h l z =
+    z
+    ∙ sym (go (eqb end c))
+    ∙ ap (followBy s) (ap (λ (x : ℕ). foundBy (eqb end x) 1 q) (g .is) ∙ sym (sign-token s at l e))
+  where
+    comma : (u : Bool) → commaBy (needed (foundBy u 1 q)) ≡ elim u as (λ w. Look) [ true ↦ Missing (onBy 1 q) | false ↦ Halted ExpectedToken q ]
+    comma true = refl
+    comma false = refl
+
+    go : (u : Bool) → followBy s (foundBy u 1 q) ≡ elim u as (λ w. Look) [ true ↦ Found q (onBy 1 q) | false ↦ elim (eqb 44 c) as (λ w. Look) [ true ↦ Missing (onBy 1 q) | false ↦ Halted ExpectedToken q ] ]
+    go true = refl
+    go false = ap (λ (m : Look). commaBy (needed m)) (sign-token s q (omega arith) (bare g f h) ∙ ap (λ (x : ℕ). foundBy (eqb 44 x) 1 q) (sym (g .is))) ∙ comma (eqb 44 c)

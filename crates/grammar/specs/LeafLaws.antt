@@ -7,7 +7,7 @@ use lib.Dec.{ltb, eqb}
 use lib.ListN.{length, drop, length-drop}
 use borrow.Author.Tests.{ltb-true, ltb-false, eqb-true, eqb-false, ne-eqb}
 use Rattle.characters.specs.declared.place.Place.{Place}
-use Rattle.characters.specs.declared.refusal.Refusal.the-variants.{EndOfInput, PostfixIncrement, IncrementAsExpression}
+use Rattle.characters.specs.declared.refusal.Refusal.the-variants.{EndOfInput, ExpectedToken, PostfixIncrement, IncrementAsExpression}
 use Rattle.characters.specs.declared.tokens.Look.{Look}
 use Rattle.characters.specs.declared.tokens.Look.the-variants.{Found, Missing, Halted}
 use Rattle.characters.specs.declared.tokens.Must.{Must}
@@ -190,3 +190,10 @@ key-on s p st = go (isQuote (byteAt s (p .offset)))
     go : (t : Bool) → KeyOn s p (elim t as (λ u. Must) [ true ↦ string s p | false ↦ name s p ])
     go true = by-string (string s p) refl
     go false = by-name (name s p) (name-on s p st)
+
+-- ---- after an element, where no blank stands
+
+-- the closing sign, or a comma, which is taken; by the byte here
+abbrev pub followAt : ℕ → ℕ → Place → Look
+followAt b end h =
+    elim (eqb end b) [ true ↦ Found h (onBy 1 h) | false ↦ elim (eqb 44 b) [ true ↦ Missing (onBy 1 h) | false ↦ Halted ExpectedToken h ] ]

@@ -1,5 +1,7 @@
 // What stands at a place: the answers of the leaves, which do all reading of the text.
+use characters::blanks::opens_blank;
 use characters::blanks::skip;
+use characters::blanks::spaces;
 use characters::names::is_name_byte;
 use characters::names::name;
 use characters::place::Place;
@@ -14,11 +16,12 @@ use literals::strings::string;
 use records::row::Row;
 use records::words::Span;
 ghost use mathlib.Core.Path.{_≡_};
-ghost use Prim.Native.Nat.{_+_, _<_, _≤_};
+ghost use Prim.Native.Nat.{_+_, _<_, _≤_, _^_};
 ghost use lib.ListN.{length};
 ghost use Rattle.characters.specs.Text.{Stands, byteAt, onBy};
 ghost use Rattle.characters.specs.Names.{name};
-ghost use Rattle.grammar.specs.Leaves.{closeOf, followOf, instanceBy, keyAt, memberBy, postfixBy, postfixOf, prefixBy, prefixOf};
+ghost use Rattle.grammar.specs.LeafLaws.{followAt};
+ghost use Rattle.grammar.specs.Leaves.{closeBy, closeOf, followOf, instanceBy, keyAt, memberBy, postfixBy, postfixOf, prefixBy, prefixOf};
 
 // What an operand begins with: a prefix sign and the place after it, or no sign.
 pub enum Prefix {
@@ -65,6 +68,12 @@ pub fn prefix_of(text: &[u8], at: Place) -> Prefix
     requires { ⌜ Stands (now text) at ⌝ }
     ensures { λ r. ⌜ r ≡ prefixOf (now (text .entry)) at ⌝ }
 {
+    let n = spaces(text, at.offset);
+    let near = at.on(n);
+    let first = byte(text, near.offset);
+    if !opens_blank(first) {
+        return prefix_at(text, near);
+    }
     let blanks = skip(text, at);
     match blanks {
         Must::Failed { refusal, at: q } => Prefix::Wrong { refusal, at: q },
@@ -111,6 +120,12 @@ pub fn postfix_of(text: &[u8], at: Place) -> Postfix
     requires { ⌜ Stands (now text) at × (length (now text) ≤ 65535) ⌝ }
     ensures { λ r. ⌜ r ≡ postfixOf (now (text .entry)) at ⌝ }
 {
+    let n = spaces(text, at.offset);
+    let near = at.on(n);
+    let first = byte(text, near.offset);
+    if !opens_blank(first) {
+        return postfix_at(text, near);
+    }
     let blanks = skip(text, at);
     match blanks {
         Must::Failed { refusal, at: q } => Postfix::Wrong { refusal, at: q },
@@ -218,28 +233,39 @@ pub fn close_of(text: &[u8], at: Place, end: u8) -> Look
     requires { ⌜ Stands (now text) at ⌝ }
     ensures { λ r. ⌜ r ≡ closeOf (now (text .entry)) at end ⌝ }
 {
+    let n = spaces(text, at.offset);
+    let near = at.on(n);
+    let first = byte(text, near.offset);
+    if !opens_blank(first) {
+        return close_at(near, first, end);
+    }
     let blanks = skip(text, at);
     match blanks {
         Must::Failed { refusal, at: q } => Look::Halted { refusal, at: q },
         Must::Taken { here: _, next } => {
             let b = byte(text, next.offset);
-            if b == 256 {
-                return Look::Halted {
-                    refusal: Refusal::EndOfInput,
-                    at: next,
-                };
-            }
-            let wanted = end as u32;
-            if b != wanted {
-                return Look::Missing { here: next };
-            }
-            let after = next.on(1);
-            Look::Found {
-                here: next,
-                next: after,
-            }
+            close_at(next, b, end)
         }
     }
+}
+
+// The sign `end` or an element here, by its byte.
+fn close_at(here: Place, b: u32, end: u8) -> Look
+    requires { ⌜ (here .offset + 1 < 2 ^ 32) × (here .column + 1 < 2 ^ 32) ⌝ }
+    ensures { λ r. ⌜ r ≡ closeBy b end here ⌝ }
+{
+    if b == 256 {
+        return Look::Halted {
+            refusal: Refusal::EndOfInput,
+            at: here,
+        };
+    }
+    let wanted = end as u32;
+    if b != wanted {
+        return Look::Missing { here };
+    }
+    let next = here.on(1);
+    Look::Found { here, next }
 }
 
 // A dictionary key: a string, or a name.
@@ -262,6 +288,12 @@ pub fn follow_of(text: &[u8], at: Place, end: u8) -> Look
     requires { ⌜ Stands (now text) at ⌝ }
     ensures { λ r. ⌜ r ≡ followOf (now (text .entry)) at end ⌝ }
 {
+    let n = spaces(text, at.offset);
+    let near = at.on(n);
+    let first = byte(text, near.offset);
+    if !opens_blank(first) {
+        return follow_at(near, first, end);
+    }
     let shut = sign(text, at, end);
     match shut {
         Look::Found { here, next } => Look::Found { here, next },
@@ -273,5 +305,25 @@ pub fn follow_of(text: &[u8], at: Place, end: u8) -> Look
                 Must::Taken { here: _, next } => Look::Missing { here: next },
             }
         }
+    }
+}
+
+// The sign `end` or a comma here, by its byte.
+fn follow_at(here: Place, b: u32, end: u8) -> Look
+    requires { ⌜ (here .offset + 1 < 2 ^ 32) × (here .column + 1 < 2 ^ 32) ⌝ }
+    ensures { λ r. ⌜ r ≡ followAt b end here ⌝ }
+{
+    let wanted = end as u32;
+    if b == wanted {
+        let next = here.on(1);
+        return Look::Found { here, next };
+    }
+    if b == 44 {
+        let next = here.on(1);
+        return Look::Missing { here: next };
+    }
+    Look::Halted {
+        refusal: Refusal::ExpectedToken,
+        at: here,
     }
 }

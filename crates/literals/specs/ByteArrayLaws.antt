@@ -649,13 +649,13 @@ Halted : Contents → Type 0
 Halted (shut q l) = ⊥
 Halted (halted k q) = Unit {0}
 
-pushed : (v : ℕ) (c : Contents) (q : Place) (l : List ℕ) → push v c ≡ shut q l → (x : List ℕ) × (c ≡ shut q x)
+pub pushed : (v : ℕ) (c : Contents) (q : Place) (l : List ℕ) → push v c ≡ shut q l → (x : List ℕ) × (c ≡ shut q x)
 unfolding Halted
 pushed v (shut p x) q l e = (x, (let z : p ≡ q = cc in ap (λ (y : Place). shut y x) z))
 pushed v (halted k p) q l e = absurd (subst Halted e tt)
 
 module _ (s : Text) (q : Place) where
-  read-on : (t : Text) (left o : ℕ) (m : Mode) (last : ℕ) (p : Place) (l : List ℕ) → t ≡ drop o s → o + left ≡ p .offset → Stands s p → read s left t m last p ≡ shut q l → Advanced s p q
+  pub read-on : (t : Text) (left o : ℕ) (m : Mode) (last : ℕ) (p : Place) (l : List ℕ) → t ≡ drop o s → o + left ≡ p .offset → Stands s p → read s left t m last p ≡ shut q l → Advanced s p q
   unfolding read Halted
   read-on [] left o m last p l z f h e = absurd (subst Halted e tt)
   read-on (b ∷ t) (suc left) o m last p l z f h e = read-on t left (o + 1) m last p l (rest s o b t z .1) (omega arith) h e

@@ -6,7 +6,10 @@ pub mod NumberEx
 pub mod Strings
 pub mod StringLaws
 pub mod SpellingLaws
+pub mod StringStable
+pub mod ScalarLaws
 pub mod StringExamples
 pub mod ByteArrays
 pub mod ByteArrayLaws
+pub mod ByteArrayStable
 pub mod ByteArrayExamples

@@ -131,6 +131,15 @@ pub choice : {A : Type 0} (P : A → Type 0) (t : Bool) {x y : A} → (t ≡ tru
 choice P true a b = a refl
 choice P false a b = b refl
 
+-- a choice on one test goes the same way, where the branch taken does
+pub same-branch : {A : Type 0} (P : A → Type 0) (t : Bool) {w x y z : A}
+    → (t ≡ true → P w → w ≡ y)
+    → (t ≡ false → P x → x ≡ z)
+    → P (elim t as (λ b. A) [ true ↦ w | false ↦ x ])
+    → _≡_ {A = A} (elim t as (λ b. A) [ true ↦ w | false ↦ x ]) (elim t as (λ b. A) [ true ↦ y | false ↦ z ])
+same-branch P true f g a = f refl a
+same-branch P false f g a = g refl a
+
 abbrev pub endOf : Run → Place
 endOf (Digits v q) = q
 endOf (Broken k q) = q

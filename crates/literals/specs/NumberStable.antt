@@ -38,7 +38,7 @@ use Rattle.literals.specs.Numbers.{
   decimal,
   number,
 }
-use Rattle.literals.specs.NumberLaws.{digit-above, run-end, choice, endOf}
+use Rattle.literals.specs.NumberLaws.{digit-above, run-end, choice, same-branch, endOf}
 
 -- the same bytes, up to and with an offset
 abbrev pub Agree : Text → Text → ℕ → Type 0
@@ -50,14 +50,13 @@ placeOf (Int z q) = q
 placeOf (Float q) = q
 placeOf (Bad k q) = q
 
--- a choice on one test goes the same way, where the branch taken does
+-- a choice on one test goes the same way, where the branch taken does, whatever the test says
 same-choice : {A : Type 0} (P : A → Type 0) (t : Bool) {w x y z : A}
     → (P w → w ≡ y)
     → (P x → x ≡ z)
     → P (elim t as (λ b. A) [ true ↦ w | false ↦ x ])
     → _≡_ {A = A} (elim t as (λ b. A) [ true ↦ w | false ↦ x ]) (elim t as (λ b. A) [ true ↦ y | false ↦ z ])
-same-choice P true f g a = f a
-same-choice P false f g a = g a
+same-choice P t f g = same-branch P t (λ e. f) (λ e. g)
 
 -- ---- no part ends before it begins
 

@@ -7,7 +7,7 @@ use Prim.Native.Nat.{ℕ, zero, suc, _+_, _-_, _*_, _≤_, _<_}
 use native.Mathlib.Omega.{arith}
 use lib.Dec.{leb, ltb, eqb}
 use lib.ListN.{length, take, drop, length-take, length-drop}
-use lib.Seq.{drop-drop, take-nil, take-all, getD-drop, getD-take}
+use lib.Seq.{drop-drop, take-nil, take-all, getD-drop}
 use borrow.Author.Tests.{ltb-true, eqb-false, lt-ltb, le-ltb, ne-eqb, eq-eqb}
 use Rattle.characters.specs.declared.place.Place.{Place}
 use Rattle.characters.specs.declared.refusal.Refusal.the-variants.{EndOfInput, BadStringEscape}
@@ -16,6 +16,7 @@ use Rattle.characters.specs.declared.tokens.Must.the-variants.{Taken, Failed}
 use Rattle.characters.specs.Text.{Text, byteAt, ByteOf, onBy, past, Stands}
 use Rattle.characters.specs.PlaceLaws.{front, from-byte, from-end, past-offset, past-stands, onBy-stands}
 use Rattle.characters.specs.BlankLaws.{rest}
+use Rattle.characters.specs.AlikeLaws.{Alike, alike-byte, alike-front, alike-drop, alike-rest, alike-none}
 use Rattle.characters.specs.Utf8.{charOf, sequenceOf}
 use Rattle.characters.specs.Utf8Laws.{sequence-length}
 use Rattle.characters.specs.Names.{part, same}
@@ -320,31 +321,25 @@ digits-more (b ∷ t) n v w k e = go (ltb (digitOf b) 16) (ltb n 6) (eqb b 125) 
     go false y true ih e = named-more n v w k e
     go false y false ih e = never {e = Short (n + 2)} tt e
 
--- digits that end in a text end in its front part too
-digits-take : (t : Text) (n v w k l : ℕ) → digits n v t ≡ Means w k → k ≤ n + 2 + l → digits n v (take l t) ≡ Means w k
+-- digits that end in a text end in each text with the same bytes
+digits-stable : (t u : Text) (n v w k l : ℕ) → Alike l t u → digits n v t ≡ Means w k → k ≤ n + 2 + l → digits n v u ≡ Means w k
 unfolding digits closing
-digits-take [] n v w k l e h = never {e = Short (n + 2)} tt e
-digits-take (b ∷ t) n v w k zero e h = let z = digits-more (b ∷ t) n v w k e in absurd (omega arith)
-digits-take (b ∷ t) n v w k (suc l) e h = go (ltb (digitOf b) 16) (ltb n 6) (λ f. digits-take t (n + 1) (v * 16 + digitOf b) w k l f (omega arith)) e
+digits-stable [] u n v w k l a e h = never {e = Short (n + 2)} tt e
+digits-stable (b ∷ t) u n v w k zero a e h = let z = digits-more (b ∷ t) n v w k e in absurd (omega arith)
+digits-stable (b ∷ t) [] n v w k (suc l) a e h = alike-none a
+digits-stable (b ∷ t) (c ∷ u) n v w k (suc l) a e h =
+    ap (λ (x : ℕ). digits n v (x ∷ u)) (sym (alike-byte 0 (omega arith) a))
+    ∙ go (ltb (digitOf b) 16) (ltb n 6) (λ f. digits-stable t u (n + 1) (v * 16 + digitOf b) w k l (alike-rest a) f (omega arith)) e
   where
     rest-of : Escaped
     rest-of = closing b n v
 
-    go : (x y : Bool) → (digits (n + 1) (v * 16 + digitOf b) t ≡ Means w k → digits (n + 1) (v * 16 + digitOf b) (take l t) ≡ Means w k)
-        → elim x as (λ u. Escaped) [ true ↦ elim y as (λ u. Escaped) [ true ↦ digits (n + 1) (v * 16 + digitOf b) t | false ↦ Short (n + 2) ] | false ↦ rest-of ] ≡ Means w k
-        → elim x as (λ u. Escaped) [ true ↦ elim y as (λ u. Escaped) [ true ↦ digits (n + 1) (v * 16 + digitOf b) (take l t) | false ↦ Short (n + 2) ] | false ↦ rest-of ] ≡ Means w k
+    go : (x y : Bool) → (digits (n + 1) (v * 16 + digitOf b) t ≡ Means w k → digits (n + 1) (v * 16 + digitOf b) u ≡ Means w k)
+        → elim x as (λ z. Escaped) [ true ↦ elim y as (λ z. Escaped) [ true ↦ digits (n + 1) (v * 16 + digitOf b) t | false ↦ Short (n + 2) ] | false ↦ rest-of ] ≡ Means w k
+        → elim x as (λ z. Escaped) [ true ↦ elim y as (λ z. Escaped) [ true ↦ digits (n + 1) (v * 16 + digitOf b) u | false ↦ Short (n + 2) ] | false ↦ rest-of ] ≡ Means w k
     go true true ih e = ih e
     go true false ih e = e
     go false y ih e = e
-
-byte-take : (m : ℕ) (t : Text) (i : ℕ) → i < m → byteAt (take m t) i ≡ byteAt t i
-byte-take m t i h = getD-take m t i 256 h
-
-drop-take : (j m : ℕ) (l : Text) → drop j (take m l) ≡ take (m - j) (drop j l)
-drop-take zero m l = ap (λ (k : ℕ). take k l) (let z : m ≡ m - 0 = omega arith in z)
-drop-take (suc j) zero l = sym (ap (λ (k : ℕ). take k (drop (suc j) l)) (let z : 0 - suc j ≡ 0 = omega arith in z))
-drop-take (suc j) (suc m) [] = sym (take-nil (suc m - suc j))
-drop-take (suc j) (suc m) (b ∷ l) = drop-take j m l ∙ ap (λ (k : ℕ). take k (drop j l)) (let z : m - j ≡ suc m - suc j = omega arith in z)
 
 hex-three : (h l v k : ℕ) → hexBy h l ≡ Means v k → k ≡ 3
 unfolding hexBy
@@ -355,13 +350,6 @@ hex-three h l v k e = go (ltb h 16 && ltb l 16 && leb (h * 16 + l) 127) e
     go false e = never {e = NotHex} tt e
 
 module _ (t : Text) (v k : ℕ) where
-  hex-take : (m : ℕ) → k ≤ m → hexAt t 0 ≡ Means v k → hexAt (take m t) 0 ≡ Means v k
-  hex-take m h e =
-      let z = hex-three (digitOf (byteAt t 1)) (digitOf (byteAt t 2)) v k e in
-      ap (λ (x : ℕ). hexBy (digitOf x) (digitOf (byteAt (take m t) 2))) (byte-take m t 1 (omega arith))
-      ∙ ap (λ (x : ℕ). hexBy (digitOf (byteAt t 1)) (digitOf x)) (byte-take m t 2 (omega arith))
-      ∙ e
-
   brace-more : unicode t 1 ≡ Means v k → 3 ≤ k
   unfolding unicode
   brace-more e = go (eqb (byteAt t 1) 123) e
@@ -369,18 +357,6 @@ module _ (t : Text) (v k : ℕ) where
       go : (u : Bool) → elim u as (λ w. Escaped) [ true ↦ digits 0 0 (drop 2 t) | false ↦ Short 1 ] ≡ Means v k → 3 ≤ k
       go true e = let z = digits-more (drop 2 t) 0 0 v k e in omega arith
       go false e = never {e = Short 1} tt e
-
-  brace-take : (m : ℕ) → k ≤ m → unicode t 1 ≡ Means v k → unicode (take m t) 1 ≡ Means v k
-  unfolding unicode
-  brace-take m h e =
-      ap (λ (x : ℕ). elim (eqb x 123) as (λ w. Escaped) [ true ↦ digits 0 0 (drop 2 (take m t)) | false ↦ Short 1 ]) (byte-take m t 1 (let z = brace-more e in omega arith))
-      ∙ go (eqb (byteAt t 1) 123) e
-    where
-      go : (u : Bool) → elim u as (λ w. Escaped) [ true ↦ digits 0 0 (drop 2 t) | false ↦ Short 1 ] ≡ Means v k → elim u as (λ w. Escaped) [ true ↦ digits 0 0 (drop 2 (take m t)) | false ↦ Short 1 ] ≡ Means v k
-      go true e =
-          let z = digits-more (drop 2 t) 0 0 v k e in
-          ap (digits 0 0) (drop-take 2 m t) ∙ digits-take (drop 2 t) 0 0 v k (m - 2) e (omega arith)
-      go false e = e
 
   -- an escape is one letter or one of the long forms
   by-form : (R : Type 0) (b : ℕ) (x u : Escaped) → escapeWith b x u ≡ Means v k → (k ≡ 1 → R) → (x ≡ Means v k → R) → (u ≡ Means v k → R) → R
@@ -405,15 +381,35 @@ module _ (t : Text) (v k : ℕ) where
       by-form (1 ≤ k) (byteAt t 0) (hexAt t 0) (unicode t 1) (sym (escape-with t 0) ∙ e) (λ z. omega arith)
       (λ z. let w = hex-three (digitOf (byteAt t 1)) (digitOf (byteAt t 2)) v k z in omega arith) (λ z. let w = brace-more z in omega arith)
 
-  -- so an escape that ends in a text is the same in a front part that holds it
-  pub escape-take : (m : ℕ) → k ≤ m → escape t 0 ≡ Means v k → escape (take m t) 0 ≡ Means v k
-  escape-take m h e =
-      let b = byteAt t 0 in
-      escape-with (take m t) 0
-      ∙ ap (λ (x : ℕ). escapeWith x (hexAt (take m t) 0) (unicode (take m t) 1)) (byte-take m t 0 (let z = escape-more e in omega arith))
-      ∙ one-form (ltb (letterOf b) 256) (Means (letterOf b) 1)
-      (a-form (eqb b 120) (hex-take m h) (a-form (eqb b 117) (brace-take m h) (λ z. z)))
-      (sym (escape-with t 0) ∙ e)
+  module _ (u : Text) (a : Alike k t u) where
+    hex-stable : hexAt t 0 ≡ Means v k → hexAt u 0 ≡ Means v k
+    hex-stable e =
+        let z = hex-three (digitOf (byteAt t 1)) (digitOf (byteAt t 2)) v k e in
+        ap (λ (x : ℕ). hexBy (digitOf x) (digitOf (byteAt u 2))) (sym (alike-byte 1 (omega arith) a))
+        ∙ ap (λ (x : ℕ). hexBy (digitOf (byteAt t 1)) (digitOf x)) (sym (alike-byte 2 (omega arith) a))
+        ∙ e
+
+    brace-stable : unicode t 1 ≡ Means v k → unicode u 1 ≡ Means v k
+    unfolding unicode
+    brace-stable e =
+        ap (λ (x : ℕ). elim (eqb x 123) as (λ w. Escaped) [ true ↦ digits 0 0 (drop 2 u) | false ↦ Short 1 ]) (sym (alike-byte 1 (omega (arith, brace-more e)) a))
+        ∙ go (eqb (byteAt t 1) 123) e
+      where
+        go : (y : Bool) → elim y as (λ w. Escaped) [ true ↦ digits 0 0 (drop 2 t) | false ↦ Short 1 ] ≡ Means v k → elim y as (λ w. Escaped) [ true ↦ digits 0 0 (drop 2 u) | false ↦ Short 1 ] ≡ Means v k
+        go true e =
+            let z = digits-more (drop 2 t) 0 0 v k e in
+            digits-stable (drop 2 t) (drop 2 u) 0 0 v k (k - 2) (alike-drop 2 (omega arith) a) e (omega arith)
+        go false e = e
+
+    -- so an escape is decided by its own bytes
+    pub escape-stable : escape t 0 ≡ Means v k → escape u 0 ≡ Means v k
+    escape-stable e =
+        let b = byteAt t 0 in
+        escape-with u 0
+        ∙ ap (λ (x : ℕ). escapeWith x (hexAt u 0) (unicode u 1)) (sym (alike-byte 0 (omega (arith, escape-more e)) a))
+        ∙ one-form (ltb (letterOf b) 256) (Means (letterOf b) 1)
+        (a-form (eqb b 120) hex-stable (a-form (eqb b 117) brace-stable (λ z. z)))
+        (sym (escape-with t 0) ∙ e)
 
 abbrev Refused : Must → Type 0
 Refused (Taken h n) = ⊥
@@ -432,7 +428,7 @@ module _ (s : Text) (at : Place) (q : ℕ) (h n : Place) where
   not-taken : {A : Type 0} {m : Must} → Refused m → m ≡ Taken h n → A
   not-taken w e = absurd (subst Refused e w)
 
-  scan-spelt : (t : Text) (left o : ℕ) (p : Place) → t ≡ drop o s → o + left ≡ p .offset → Stands s p → scan s at q left t p ≡ Taken h n → (h ≡ at) × Spelt s o left t n
+  pub scan-spelt : (t : Text) (left o : ℕ) (p : Place) → t ≡ drop o s → o + left ≡ p .offset → Stands s p → scan s at q left t p ≡ Taken h n → (h ≡ at) × Spelt s o left t n
   unfolding scan sound
   scan-spelt [] left o p z f st e = not-taken {m = Failed EndOfInput p} tt e
   scan-spelt (b ∷ t) (suc left) o p z f st e =
@@ -462,7 +458,7 @@ module _ (s : Text) (at : Place) (q : ℕ) (h n : Place) where
 
       spelt-escape : (v k : ℕ) → eqb b 92 ≡ true → escape s (p .offset + 1) ≡ Means v k → (i : Spelt s (o + 1) k t n) → sound zero (b ∷ take (i .more) t) ≡ true
       spelt-escape v k x y i =
-          let w : escape (take (i .more) t) 0 ≡ Means v k = escape-take t v k (i .more) (i .enough) (ap (λ (l : Text). escape l 0) follows ∙ escape-shift s (p .offset + 1) ∙ y) in
+          let w : escape (take (i .more) t) 0 ≡ Means v k = escape-stable t v k (take (i .more) t) (alike-front t (i .enough)) (ap (λ (l : Text). escape l 0) follows ∙ escape-shift s (p .offset + 1) ∙ y) in
           rw (x, w, sound) (i .good)
 
       go : (x y : Bool) (r : Escaped) → eqb b 92 ≡ y → escape s (p .offset + 1) ≡ r

@@ -1,12 +1,14 @@
-use mathlib.Core.Path.{ap, sym, _∙_}
+use mathlib.Core.Path.{refl, ap, sym, _∙_}
 use Rattle.characters.specs.declared.place.Place.{Place}
 use Prim.Native.Nat.{_-_}
 use lib.ListN.{length}
 use native.Mathlib.Omega.{arith}
 use Rattle.characters.specs.PlaceLaws.{room}
 use Rattle.characters.specs.Blanks.{isBlank}
+use Rattle.characters.specs.BlankLaws.{not-blank}
 use Rattle.characters.proofs.Places.{on-less, less}
-use Rattle.characters.proofs.Passing.{InBlanks, blanks-begin, blank-on, blank-line, comment-line, comment-closed, comment-fails, token-here, slash-here, not-blank}
+use Rattle.characters.specs.BlankLaws.{spaced-stands}
+use Rattle.characters.proofs.Passing.{InBlanks, space-here, blanks-begin, blank-on, blank-spaces, blank-line, comment-line, comment-closed, comment-fails, token-here, slash-here}
 -- `skip` goes past blanks. Assumes nothing.
 use borrow.Author.Needs.{needs}
 use Rattle.characters.proofs.blanks.skip.Statement.{statement}
@@ -15,6 +17,7 @@ use Rattle.characters.proofs.blanks.skip.Reads as reads
 use Rattle.characters.proofs.blanks.skip.Lts as lts
 use Rattle.characters.proofs.blanks.block_end.Reads as block-end-reads
 use Rattle.characters.proofs.blanks.line_end.Reads as line-end-reads
+use Rattle.characters.proofs.blanks.spaces.Reads as spaces-reads
 use Rattle.characters.proofs.place.Place.line_on.Reads as line-on-reads
 use Rattle.characters.proofs.place.Place.on.Reads as on-reads
 use Rattle.characters.proofs.place.byte.Reads as byte-reads
@@ -31,14 +34,17 @@ loop-holds c = blanks-begin (c .before .pre)
 byte-requires : tie.Need-byte-requires Inv-loop μ-loop
 byte-requires c κs = search needs
 
+spaces-requires : tie.Need-spaces-requires Inv-loop μ-loop
+spaces-requires c κs = c .before .before .loop .inv .stands .short
+
 on-requires : tie.Need-on-requires Inv-loop μ-loop
-on-requires c κs = let h = room (c .before .before .loop .inv .stands) in (omega arith, omega arith)
+on-requires c κs = let h = room (spaced-stands (c .before .before .before .loop .inv .stands) (c .spaces .ensures) refl) in (omega arith, omega arith)
 
 loop-less : tie.Need-loop-less Inv-loop μ-loop
-loop-less c = on-less 1 _ (blank-on (c .before .before .before .loop .inv) (c .before .before .byte .ensures) (ap isBlank (c .before .match .keys1)) (omega arith) (λ h. omega arith) (c .on .ensures) .stands) (c .on .ensures) (omega arith)
+loop-less c = on-less _ _ (blank-spaces (c .before .before .before .before .loop .inv) (c .before .spaces .ensures) (c .on .ensures) .stands) (c .on .ensures) (space-here (c .before .before .before .byte .ensures) (c .before .before .match .keys1) (c .before .spaces .ensures))
 
 loop-again : tie.Need-loop-again Inv-loop μ-loop
-loop-again c = blank-on (c .before .before .before .loop .inv) (c .before .before .byte .ensures) (ap isBlank (c .before .match .keys1)) (omega arith) (λ h. omega arith) (c .on .ensures)
+loop-again c = blank-spaces (c .before .before .before .before .loop .inv) (c .before .spaces .ensures) (c .on .ensures)
 
 line-on-requires : tie.Need-line-on-requires Inv-loop μ-loop
 line-on-requires c κs = let h = room (c .before .before .loop .inv .stands) in (omega arith, omega arith)
@@ -123,6 +129,7 @@ skip-spec =
     μ-loop
     loop-holds
     byte-requires
+    spaces-requires
     on-requires
     loop-less
     loop-again

@@ -7,12 +7,14 @@ use Prim.Native.Nat.{ℕ, zero, suc, _+_, _-_, _*_, _%_, _≤_, _<_}
 use native.Mathlib.Omega.{arith}
 use lib.Dec.{eqb, leb, ltb}
 use lib.ListN.{length, take, drop, getD, length-drop}
-use lib.Seq.{getD-drop, getD-take, drop-drop, take-nil}
+use lib.Seq.{getD-drop, drop-drop}
 use borrow.Author.Tests.{eqb-true, leb-true, ltb-true, ltb-false}
 use Rattle.characters.specs.Text.{Text, byteAt, ByteOf}
 use Rattle.characters.specs.PlaceLaws.{getD-any}
 use Rattle.characters.specs.Names.{part, same, reserved, numbered, wordOf, foldOf}
 use Rattle.characters.proofs.Naming.{part-length, part-bytes}
+use Rattle.characters.specs.AlikeLaws.{drop-take, part-byte}
+use Rattle.characters.proofs.Tables.{at-key, Others, no-key}
 use Rattle.characters.specs.Words.{slotOf, headOf, slot, head, tail, slots, heads, rests}
 
 -- ---- the computed test
@@ -233,15 +235,7 @@ module _ (n : Text) where
 
 -- ---- the name that stands from one offset to another
 
-drop-take : (k m : ℕ) (l : Text) → drop k (take (k + m) l) ≡ take m (drop k l)
-drop-take zero m l = ap (λ (n : ℕ). take n l) (let z : 0 + m ≡ m = omega arith in z)
-drop-take (suc k) m [] = ap (drop (suc k)) (take-nil (suc k + m)) ∙ sym (take-nil m)
-drop-take (suc k) m (x ∷ l) = ap (λ (n : ℕ). drop (suc k) (take n (x ∷ l))) (let z : suc k + m ≡ suc (k + m) = omega arith in z) ∙ drop-take k m l
-
 module _ (s : Text) (from to : ℕ) (h : from ≤ to) (l : to ≤ length s) where
-  part-byte : (i : ℕ) → i < to - from → byteAt (part s from to) i ≡ byteAt s (from + i)
-  part-byte i k = getD-take (to - from) (drop from s) i 256 k ∙ getD-drop from s i 256
-
   part-drop : (k : ℕ) → from + k ≤ to → drop k (part s from to) ≡ part s (from + k) to
   part-drop k g =
       ap (λ (n : ℕ). drop k (take n (drop from s))) (let z : to - from ≡ k + (to - (from + k)) = omega arith in z)
@@ -251,8 +245,8 @@ module _ (s : Text) (from to : ℕ) (h : from ≤ to) (l : to ≤ length s) wher
   module _ (a b : ℕ) (x : ByteOf s from a) (y : ByteOf s (from + 1) b) (two : 2 ≤ to - from) where
     first-two : (byteAt (part s from to) 0 ≡ a) × (byteAt (part s from to) 1 ≡ b) × (length (part s from to) ≡ to - from)
     first-two = (
-      part-byte 0 (omega arith) ∙ ap (byteAt s) (let z : from + 0 ≡ from = omega arith in z) ∙ sym (x .is),
-      part-byte 1 (omega arith) ∙ sym (y .is),
+      part-byte s from to 0 (omega arith) ∙ ap (byteAt s) (let z : from + 0 ≡ from = omega arith in z) ∙ sym (x .is),
+      part-byte s from to 1 (omega arith) ∙ sym (y .is),
       part-length s from to h l,
     )
 
@@ -265,9 +259,13 @@ module _ (s : Text) (from to : ℕ) (h : from ≤ to) (l : to ≤ length s) wher
     tail-is : tail (part s from to) ≡ foldOf 0 (part s (from + 2) to)
     tail-is = ap (foldOf 0) (part-drop 2 (omega arith))
 
-    -- another word's head, or another's rest
+    -- another word's head, no word at all, or another's rest
     pub other-head : (k g : ℕ) → k ≡ getD slots (slotOf (to - from) a b) 0 → g ≡ getD heads k 0 → (g ≡ headOf (to - from) a b → ⊥) → 0 ≡ wordOf (part s from to)
     other-head k g e f n = not-in-slot (part s from to) k (e ∙ ap (λ (i : ℕ). getD slots i 0) (sym slot-is)) (λ p q. n (f ∙ p ∙ head-is))
+
+    pub empty-slot : (k : ℕ) → k ≡ getD slots (slotOf (to - from) a b) 0 → k ≡ 0 → 0 ≡ wordOf (part s from to)
+    unfolding heads
+    empty-slot k e z = other-head k 0 e (ap (λ (i : ℕ). getD heads i 0) (sym z)) (λ h. omega arith)
 
     pub other-rest : (k g t : ℕ) → k ≡ getD slots (slotOf (to - from) a b) 0 → g ≡ getD rests k 0 → t ≡ foldOf 0 (part s (from + 2) to) → (g ≡ t → ⊥) → 0 ≡ wordOf (part s from to)
     other-rest k g t e f d n = not-in-slot (part s from to) k (e ∙ ap (λ (i : ℕ). getD slots i 0) (sym slot-is)) (λ p q. n (f ∙ q ∙ tail-is ∙ sym d))
@@ -283,5 +281,10 @@ module _ (s : Text) (from to : ℕ) (h : from ≤ to) (l : to ≤ length s) wher
   pub too-long : 10 < to - from → 0 ≡ wordOf (part s from to)
   too-long g = not-so-long (part s from to) (λ p q. let z = part-length s from to h l in omega arith)
 
-pub slot-below : (i : ℕ) → getD slots i 0 < 29
-slot-below i = below-at 29 slots slots-below (omega arith) i
+-- ---- the arms of a slot
+
+pub slot-key : {i k : ℕ} → i ≡ k → (getD slots k 0 ≡ getD slots i 0) × (getD slots k 0 < 29)
+slot-key {i} {k} e = (at-key slots e, below-at 29 slots slots-below (omega arith) k)
+
+pub slot-none : (i : ℕ) → Others (Unit {0}) i 0 slots → (0 ≡ getD slots i 0) × (0 < 29)
+slot-none i h = (no-key slots i h, omega arith)

@@ -10,140 +10,6 @@ ghost use Rattle.characters.specs.Text.{Stands};
 ghost use Rattle.characters.specs.Words.{heads, rests, slots};
 ghost use Rattle.characters.specs.Names.{foldOf, freeName, isLetter, isNameByte, name, part, wordOf};
 
-// Each reserved word has a slot of its own, by its length and first two letters.
-const SLOTS: [u32; 64] = [
-    0,
-    0,
-    15,
-    11,
-    0,
-    2,
-    21,
-    0,
-    0,
-    0,
-    0,
-    0,
-    0,
-    0,
-    0,
-    0,
-    0,
-    7,
-    0,
-    14,
-    0,
-    28,
-    0,
-    18,
-    27,
-    3,
-    0,
-    0,
-    24,
-    0,
-    19,
-    9,
-    20,
-    0,
-    0,
-    8,
-    0,
-    0,
-    0,
-    26,
-    0,
-    22,
-    0,
-    4,
-    0,
-    10,
-    1,
-    0,
-    0,
-    12,
-    23,
-    0,
-    0,
-    0,
-    0,
-    13,
-    0,
-    5,
-    0,
-    0,
-    17,
-    6,
-    16,
-    25,
-];
-
-// Of each reserved word, by its number: 65536 * length + 256 * first letter + second letter.
-const HEADS: [u32; 29] = [
-    0,
-    291954,
-    353889,
-    224873,
-    224357,
-    226913,
-    222837,
-    353132,
-    484728,
-    158054,
-    288108,
-    289903,
-    358248,
-    222831,
-    422501,
-    352882,
-    549743,
-    418163,
-    682350,
-    420205,
-    226418,
-    353121,
-    484969,
-    357480,
-    358761,
-    156783,
-    158062,
-    355681,
-    419192,
-];
-
-// And the letters after those two, each a digit to the base 256.
-const RESTS: [u64; 29] = [
-    0,
-    30053,
-    7107429,
-    108,
-    116,
-    114,
-    110,
-    6386547,
-    499917939827,
-    0,
-    29541,
-    28528,
-    6909029,
-    114,
-    1953854062,
-    6644075,
-    121446264108389,
-    1936028276,
-    8319381538402037606,
-    1886351988,
-    121,
-    7627624,
-    474080898169,
-    7499639,
-    6646884,
-    0,
-    0,
-    7627624,
-    1886351988,
-];
-
 // A letter or `_`.
 pub fn is_letter(b: u32) -> bool
     ensures { λ r. ⌜ r ≡ isLetter b ⌝ }
@@ -243,6 +109,9 @@ pub fn word(text: &[u8], from: u32, to: u32) -> u32
     let slot = (21 * a + b + 14 * n) % 64;
     let head = 65536 * n + 256 * a + b;
     let k = slot_at(slot);
+    if k == 0 {
+        return 0;
+    }
     if head_at(k) != head {
         return 0;
     }
@@ -253,28 +122,115 @@ pub fn word(text: &[u8], from: u32, to: u32) -> u32
     k
 }
 
-// The number of the word in a slot.
+// The number of the word in a slot. Each has a slot of its own, by its length and first two letters.
 fn slot_at(slot: u32) -> u32
     requires { ⌜ slot < 64 ⌝ }
     ensures { λ r. ⌜ (r ≡ getD slots slot 0) × (r < 29) ⌝ }
 {
-    SLOTS[slot as usize]
+    match slot {
+        2 => 15,
+        3 => 11,
+        5 => 2,
+        6 => 21,
+        17 => 7,
+        19 => 14,
+        21 => 28,
+        23 => 18,
+        24 => 27,
+        25 => 3,
+        28 => 24,
+        30 => 19,
+        31 => 9,
+        32 => 20,
+        35 => 8,
+        39 => 26,
+        41 => 22,
+        43 => 4,
+        45 => 10,
+        46 => 1,
+        49 => 12,
+        50 => 23,
+        55 => 13,
+        57 => 5,
+        60 => 17,
+        61 => 6,
+        62 => 16,
+        63 => 25,
+        _ => 0,
+    }
 }
 
-// The head of a word.
+// The head of a word: 65536 * length + 256 * first letter + second letter.
 fn head_at(k: u32) -> u32
     requires { ⌜ k < 29 ⌝ }
     ensures { λ r. ⌜ r ≡ getD heads k 0 ⌝ }
 {
-    HEADS[k as usize]
+    match k {
+        1 => 291954,
+        2 => 353889,
+        3 => 224873,
+        4 => 224357,
+        5 => 226913,
+        6 => 222837,
+        7 => 353132,
+        8 => 484728,
+        9 => 158054,
+        10 => 288108,
+        11 => 289903,
+        12 => 358248,
+        13 => 222831,
+        14 => 422501,
+        15 => 352882,
+        16 => 549743,
+        17 => 418163,
+        18 => 682350,
+        19 => 420205,
+        20 => 226418,
+        21 => 353121,
+        22 => 484969,
+        23 => 357480,
+        24 => 358761,
+        25 => 156783,
+        26 => 158062,
+        27 => 355681,
+        28 => 419192,
+        _ => 0,
+    }
 }
 
-// The rest of a word.
+// The rest of a word: the letters after those two, each a digit to the base 256.
 fn rest_at(k: u32) -> u64
     requires { ⌜ k < 29 ⌝ }
     ensures { λ r. ⌜ r ≡ getD rests k 0 ⌝ }
 {
-    RESTS[k as usize]
+    match k {
+        1 => 30053,
+        2 => 7107429,
+        3 => 108,
+        4 => 116,
+        5 => 114,
+        6 => 110,
+        7 => 6386547,
+        8 => 499917939827,
+        10 => 29541,
+        11 => 28528,
+        12 => 6909029,
+        13 => 114,
+        14 => 1953854062,
+        15 => 6644075,
+        16 => 121446264108389,
+        17 => 1936028276,
+        18 => 8319381538402037606,
+        19 => 1886351988,
+        20 => 121,
+        21 => 7627624,
+        22 => 474080898169,
+        23 => 7499639,
+        24 => 6646884,
+        27 => 7627624,
+        28 => 1886351988,
+        _ => 0,
+    }
 }
 
 // At most eight bytes as one number, each a digit to the base 256.

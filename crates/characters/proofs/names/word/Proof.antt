@@ -1,5 +1,5 @@
 use native.Mathlib.Omega.{arith}
-use Rattle.characters.proofs.Words.{other-head, other-rest, the-word, too-short, too-long}
+use Rattle.characters.proofs.Words.{other-head, empty-slot, other-rest, the-word, too-short, too-long}
 -- `word` looks into the one slot that a name can be in. Assumes nothing.
 use borrow.Author.Needs.{needs}
 use Rattle.characters.proofs.names.word.Statement.{statement}
@@ -57,11 +57,14 @@ add-head-2 c = let l = c .before .before .before .before .before .pre .1 in let 
 slot-at-requires : tie.Need-slot-at-requires
 slot-at-requires c κs = search needs
 
+returns-3 : tie.Need-returns-3
+returns-3 c = empty-slot _ _ _ (c .before .before .before .before .before .before .before .pre .0) (c .before .before .before .before .before .before .before .pre .1) _ _ (c .before .before .before .byte .ensures) (c .before .before .byte2 .ensures) (c .before .before .before .before .before .if1 .left) _ (c .before .slot-at .ensures .0) (c .if3 .taken)
+
 head-at-requires : tie.Need-head-at-requires
 head-at-requires c κs = search needs
 
-returns-3 : tie.Need-returns-3
-returns-3 c = other-head _ _ _ (c .before .before .before .before .before .before .before .before .pre .0) (c .before .before .before .before .before .before .before .before .pre .1) _ _ (c .before .before .before .before .byte .ensures) (c .before .before .before .byte2 .ensures) (c .before .before .before .before .before .before .if1 .left) _ _ (c .before .before .slot-at .ensures .0) (c .before .head-at .ensures) (c .if3 .taken)
+returns-4 : tie.Need-returns-4
+returns-4 c = other-head _ _ _ (c .before .before .before .before .before .before .before .before .before .pre .0) (c .before .before .before .before .before .before .before .before .before .pre .1) _ _ (c .before .before .before .before .before .byte .ensures) (c .before .before .before .before .byte2 .ensures) (c .before .before .before .before .before .before .before .if1 .left) _ _ (c .before .before .before .slot-at .ensures .0) (c .before .head-at .ensures) (c .if4 .taken)
 
 add-fold : tie.Need-add-fold
 add-fold c = search needs
@@ -72,11 +75,11 @@ fold-requires c κs = search needs
 rest-at-requires : tie.Need-rest-at-requires
 rest-at-requires c κs = search needs
 
-returns-4 : tie.Need-returns-4
-returns-4 c = other-rest _ _ _ (c .before .before .before .before .before .before .before .before .before .before .before .pre .0) (c .before .before .before .before .before .before .before .before .before .before .before .pre .1) _ _ (c .before .before .before .before .before .before .before .byte .ensures) (c .before .before .before .before .before .before .byte2 .ensures) (c .before .before .before .before .before .before .before .before .before .if1 .left) _ _ _ (c .before .before .before .before .before .slot-at .ensures .0) (c .before .rest-at .ensures) (c .before .before .fold .ensures) (c .if4 .taken)
-
 returns-5 : tie.Need-returns-5
-returns-5 c = the-word _ _ _ (c .before .before .before .before .before .before .before .before .before .before .before .pre .0) (c .before .before .before .before .before .before .before .before .before .before .before .pre .1) _ _ (c .before .before .before .before .before .before .before .byte .ensures) (c .before .before .before .before .before .before .byte2 .ensures) (c .before .before .before .before .before .before .before .before .before .if1 .left) (λ i. omega (arith, c .before .before .before .before .before .before .before .before .before .before .shared-slice-known .given i)) _ _ _ _ (c .before .before .before .before .before .slot-at .ensures .0) (c .before .before .before .before .head-at .ensures) (c .before .before .before .if3 .left) (c .before .rest-at .ensures) (c .before .before .fold .ensures) (c .if4 .left)
+returns-5 c = other-rest _ _ _ (c .before .before .before .before .before .before .before .before .before .before .before .before .pre .0) (c .before .before .before .before .before .before .before .before .before .before .before .before .pre .1) _ _ (c .before .before .before .before .before .before .before .before .byte .ensures) (c .before .before .before .before .before .before .before .byte2 .ensures) (c .before .before .before .before .before .before .before .before .before .before .if1 .left) _ _ _ (c .before .before .before .before .before .before .slot-at .ensures .0) (c .before .rest-at .ensures) (c .before .before .fold .ensures) (c .if5 .taken)
+
+returns-6 : tie.Need-returns-6
+returns-6 c = the-word _ _ _ (c .before .before .before .before .before .before .before .before .before .before .before .before .pre .0) (c .before .before .before .before .before .before .before .before .before .before .before .before .pre .1) _ _ (c .before .before .before .before .before .before .before .before .byte .ensures) (c .before .before .before .before .before .before .before .byte2 .ensures) (c .before .before .before .before .before .before .before .before .before .before .if1 .left) (λ i. omega (arith, c .before .before .before .before .before .before .before .before .before .before .before .shared-slice-known .given i)) _ _ _ _ (c .before .before .before .before .before .before .slot-at .ensures .0) (c .before .before .before .before .head-at .ensures) (c .before .before .before .if4 .left) (c .before .rest-at .ensures) (c .before .before .fold .ensures) (c .if5 .left)
 
 pub word-spec : {M : Type 1} → statement M
 word-spec =
@@ -97,10 +100,11 @@ word-spec =
     add-head
     add-head-2
     slot-at-requires
-    head-at-requires
     returns-3
+    head-at-requires
+    returns-4
     add-fold
     fold-requires
     rest-at-requires
-    returns-4
-    returns-5)
+    returns-5
+    returns-6)

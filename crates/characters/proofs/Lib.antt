@@ -2,6 +2,5 @@ mod Places
 mod Utf8Steps
 mod Passing
 mod Naming
-mod Tables
 mod Words
 mod Looking

@@ -14,7 +14,7 @@ use Rattle.characters.specs.PlaceLaws.{getD-any}
 use Rattle.characters.specs.Names.{part, same, reserved, numbered, wordOf, foldOf}
 use Rattle.characters.proofs.Naming.{part-length, part-bytes}
 use Rattle.characters.specs.AlikeLaws.{drop-take, part-byte}
-use Rattle.characters.proofs.Tables.{at-key, Others, no-key}
+use Rattle.characters.specs.TableLaws.{at-key, Others, no-key}
 use Rattle.characters.specs.Words.{slotOf, headOf, slot, head, tail, slots, heads, rests}
 
 -- ---- the computed test

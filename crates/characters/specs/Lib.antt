@@ -13,5 +13,6 @@ pub mod AlikeLaws
 pub mod BlankStable
 pub mod NameLaws
 pub mod TokenLaws
+pub mod TableLaws
 pub mod Utf8Ex
 pub mod Examples

@@ -10,24 +10,58 @@ ghost use Rattle.grammar.specs.Operators.{operatorOf, strengthOf};
 ghost use Rattle.grammar.specs.Leaves.{linkOf};
 ghost use Rattle.grammar.specs.LinkLaws.{signOf};
 
-const STRENGTHS: [u32; 19] = [0, 3, 3, 3, 4, 4, 5, 5, 6, 6, 6, 6, 7, 7, 11, 12, 8, 9, 10];
-
 // How tightly an operator binds, the lower the tighter; 0 for a number of none.
 pub fn strength_of(op: u32) -> u32
     ensures { λ r. ⌜ r ≡ strengthOf op ⌝ }
 {
-    let i = op as usize;
-    if i < 19 { STRENGTHS[i] } else { 0 }
+    match op {
+        1 => 3,
+        2 => 3,
+        3 => 3,
+        4 => 4,
+        5 => 4,
+        6 => 5,
+        7 => 5,
+        8 => 6,
+        9 => 6,
+        10 => 6,
+        11 => 6,
+        12 => 7,
+        13 => 7,
+        14 => 11,
+        15 => 12,
+        16 => 8,
+        17 => 9,
+        18 => 10,
+        _ => 0,
+    }
 }
-
-const WIDTHS: [u32; 19] = [0, 1, 1, 1, 1, 1, 2, 2, 2, 1, 2, 1, 2, 2, 2, 2, 1, 1, 1];
 
 // The bytes of an operator's sign.
 fn width_of(op: u32) -> u32
     ensures { λ r. ⌜ r ≡ length (operatorOf op .sign) ⌝ }
 {
-    let i = op as usize;
-    if i < 19 { WIDTHS[i] } else { 0 }
+    match op {
+        1 => 1,
+        2 => 1,
+        3 => 1,
+        4 => 1,
+        5 => 1,
+        6 => 2,
+        7 => 2,
+        8 => 2,
+        9 => 1,
+        10 => 2,
+        11 => 1,
+        12 => 2,
+        13 => 2,
+        14 => 2,
+        15 => 2,
+        16 => 1,
+        17 => 1,
+        18 => 1,
+        _ => 0,
+    }
 }
 
 // What three bytes begin, 256 being none: an operator's number, 0 for nothing, 19 for `?`, 20 for an assignment sign.

@@ -1,6 +1,6 @@
 -- `head_at` has an arm for each word. Assumes nothing.
 use Rattle.characters.specs.Words.{heads}
-use Rattle.characters.proofs.Tables.{at-key, no-key}
+use Rattle.characters.specs.TableLaws.{at-key, no-key}
 use Rattle.characters.proofs.names.head_at.Statement.{statement}
 use Rattle.characters.proofs.names.head_at.Tie as tie
 

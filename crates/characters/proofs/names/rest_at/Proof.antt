@@ -1,6 +1,6 @@
 -- `rest_at` has an arm for each word of three letters or more. Assumes nothing.
 use Rattle.characters.specs.Words.{rests}
-use Rattle.characters.proofs.Tables.{at-key, no-key}
+use Rattle.characters.specs.TableLaws.{at-key, no-key}
 use Rattle.characters.proofs.names.rest_at.Statement.{statement}
 use Rattle.characters.proofs.names.rest_at.Tie as tie
 

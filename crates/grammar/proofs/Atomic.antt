@@ -27,27 +27,23 @@ use Rattle.literals.specs.Strings.{isQuote}
 use Rattle.literals.specs.ByteArrays.{bytearray}
 use Rattle.records.specs.declared.kind.Kind.{Kind}
 use Rattle.records.specs.declared.kind.Kind.the-variants as kinds
-use Rattle.records.specs.Words.{spanWord, lowOf, highOf}
+use Rattle.records.specs.Words.{spanWord}
 use Rattle.grammar.specs.declared.leaves.Atom.{Atom}
 use Rattle.grammar.specs.declared.leaves.Atom.the-variants.{Leaf, Wrong}
-use Rattle.grammar.specs.Leaves.{rowOf, numberRow, natOf, numberAtom, spanAtom, wordAtom, nameAtom, atomBy, atomOf}
+use Rattle.grammar.specs.Leaves.{natOf, numberAtom, spanAtom, wordAtom, nameAtom, atomBy, atomOf}
 use Rattle.grammar.specs.AtomLaws.{Near, SpanOn, stringAtom, hostAtom, hashAtom, signAtom, atom-digit, atom-letter, atom-quote, atom-sign}
 
--- ---- rows
-
-pub span-row : {k : Kind} {h q : Place} {w x : ℕ} → w ≡ x → Leaf (rowOf k h w 0 0) 0 q ≡ Leaf (rowOf k h x 0 0) 0 q
-span-row {k} {h} {q} e = ap (λ (a : ℕ). Leaf (rowOf k h a 0 0) 0 q) e
-
-pub number-row : {k : Kind} {h q : Place} {v a b : ℕ} → a ≡ lowOf v → b ≡ highOf v → Leaf (rowOf k h a b 0) v q ≡ Leaf (numberRow k h v) v q
-number-row {k} {h} {q} {v} {a} {b} e f = ap (λ (x : ℕ). Leaf (rowOf k h x b 0) v q) e ∙ ap (λ (x : ℕ). Leaf (rowOf k h (lowOf v) x 0) v q) f
+-- a leaf, by its value
+pub leaf-as : {k : Kind} {q : Place} {v w : ℕ} → v ≡ w → Leaf k v q ≡ Leaf k w q
+leaf-as {k} {q} e = ap (λ (x : ℕ). Leaf k x q) e
 
 -- ---- spans
 
 pub near-end : {r : Must} {h q : Place} → Near r → r ≡ Taken h q → q .offset ≤ 65535
 near-end {r} {h} {q} n e = subst Near e n
 
-pub span-by : (k : Kind) (h : Place) (from : ℕ) {a : Atom} {r x : Must} → r ≡ x → a ≡ spanAtom k h from x → a ≡ spanAtom k h from r
-span-by k h from e g = g ∙ ap (spanAtom k h from) (sym e)
+pub span-by : (k : Kind) (from : ℕ) {a : Atom} {r x : Must} → r ≡ x → a ≡ spanAtom k from x → a ≡ spanAtom k from r
+span-by k from e g = g ∙ ap (spanAtom k from) (sym e)
 
 -- what is read ends in the text, which is short
 pub span-near : (s : Text) (p : Place) {r x : Must} → length s ≤ 65535 → SpanOn s p x → r ≡ x → Near r
@@ -81,10 +77,9 @@ int-value z h = ap natAbs (back z h) ∙ go z h
     go (pos n) l = refl
     go (negsuc n) l = absurd l
 
-pub int-by : {s : Text} {at q : Place} {z : ℤ} {a : Atom} {x : Numeral} → Stands s at → x ≡ number s at → x ≡ Int z q
-    → a ≡ Leaf (numberRow kinds.Int at (natAbs (toZ w64 (ofZ w64 z)))) (natAbs (toZ w64 (ofZ w64 z))) q → a ≡ numberAtom at (number s at)
-int-by {s} {at} {q} {z} h e f g =
-    g ∙ ap (λ (v : ℕ). Leaf (numberRow kinds.Int at v) v q) (int-value z (int-small h e f)) ∙ ap (numberAtom at) (sym f ∙ e)
+pub int-by : {s : Text} {at q : Place} {z : ℤ} {x : Numeral} → Stands s at → x ≡ number s at → x ≡ Int z q
+    → Leaf kinds.Int (natAbs (toZ w64 (ofZ w64 z))) q ≡ numberAtom at (number s at)
+int-by {s} {at} {q} {z} h e f = leaf-as (int-value z (int-small h e f)) ∙ ap (numberAtom at) (sym f ∙ e)
 
 pub float-spans : {s : Text} {at q : Place} {x : Numeral} → Stands s at → length s ≤ 65535 → x ≡ number s at → x ≡ Float q → (at .offset ≤ 65535) × (q .offset ≤ 65535)
 float-spans {s} {at} {q} h l e f =
@@ -92,9 +87,9 @@ float-spans {s} {at} {q} h l e f =
     let j : q .offset ≤ length s = float-advances h e f .stands .inside in
     (omega arith, omega arith)
 
-pub float-by : (s : Text) (at q : Place) {w : ℕ} {a : Atom} {x : Numeral} → x ≡ number s at → x ≡ Float q → w ≡ spanWord (at .offset) (q .offset)
-    → a ≡ Leaf (numberRow kinds.Float at w) w q → a ≡ numberAtom at (number s at)
-float-by s at q e f z g = g ∙ ap (λ (v : ℕ). Leaf (numberRow kinds.Float at v) v q) z ∙ ap (numberAtom at) (sym f ∙ e)
+pub float-by : (s : Text) (at q : Place) {w : ℕ} {x : Numeral} → x ≡ number s at → x ≡ Float q → w ≡ spanWord (at .offset) (q .offset)
+    → Leaf kinds.Float w q ≡ numberAtom at (number s at)
+float-by s at q e f z = leaf-as z ∙ ap (numberAtom at) (sym f ∙ e)
 
 pub bad-by : (s : Text) (at : Place) {q : Place} {k : Refusal} {x : Numeral} → x ≡ number s at → x ≡ Bad k q → Wrong k q ≡ numberAtom at (number s at)
 bad-by s at e f = ap (numberAtom at) (sym f ∙ e)
@@ -135,12 +130,12 @@ sign-none s b h a c d e f g = rw (ne-eqb b 40 a, ne-eqb b 91 c, ne-eqb b 123 d, 
 pub hash-none : (s : Text) (h : Place) {b : ℕ} → ByteOf s (h .offset + 1) b → (b ≡ 91 → ⊥) → Wrong UnknownAtom h ≡ hashAtom s h
 hash-none s h e n = rw (ne-eqb (byteAt s (h .offset + 1)) 91 (λ z. n (e .is ∙ z)), hashAtom) refl
 
-pub hash-by : (s : Text) (h : Place) {b : ℕ} {p : Place} {a : Atom} {r : Must} → ByteOf s (h .offset + 1) b → b ≡ 91 → p ≡ onBy 2 h → r ≡ bytearray s p → a ≡ spanAtom kinds.Bytes h (h .offset) r → a ≡ hashAtom s h
+pub hash-by : (s : Text) (h : Place) {b : ℕ} {p : Place} {a : Atom} {r : Must} → ByteOf s (h .offset + 1) b → b ≡ 91 → p ≡ onBy 2 h → r ≡ bytearray s p → a ≡ spanAtom kinds.Bytes (h .offset) r → a ≡ hashAtom s h
 hash-by s h e n z f g =
-    g ∙ ap (spanAtom kinds.Bytes h (h .offset)) (f ∙ ap (bytearray s) z) ∙ rw (eq-eqb (byteAt s (h .offset + 1)) 91 (sym (e .is) ∙ n), hashAtom) refl
+    g ∙ ap (spanAtom kinds.Bytes (h .offset)) (f ∙ ap (bytearray s) z) ∙ rw (eq-eqb (byteAt s (h .offset + 1)) 91 (sym (e .is) ∙ n), hashAtom) refl
 
-pub host-by : (s : Text) (h : Place) {p : Place} {a : Atom} {r : Must} → p ≡ onBy 1 h → r ≡ name s p → a ≡ spanAtom kinds.Host h (p .offset) r → a ≡ hostAtom s h
-host-by s h {p} z f g = g ∙ ap (spanAtom kinds.Host h (p .offset)) f ∙ ap (λ (x : Place). spanAtom kinds.Host h (x .offset) (name s x)) z
+pub host-by : (s : Text) (h : Place) {p : Place} {a : Atom} {r : Must} → p ≡ onBy 1 h → r ≡ name s p → a ≡ spanAtom kinds.Host (p .offset) r → a ≡ hostAtom s h
+host-by s h {p} z f g = g ∙ ap (spanAtom kinds.Host (p .offset)) f ∙ ap (λ (x : Place). spanAtom kinds.Host (x .offset) (name s x)) z
 
 -- ---- the first byte
 

@@ -14,14 +14,14 @@ use Rattle.characters.specs.Text.{Text, ascii, onBy, Stands}
 use Rattle.characters.specs.PlaceLaws.{Reached, Advanced, reached-on, advanced-on, advanced-reached}
 use Rattle.characters.specs.Tokens.{token, expected}
 use Rattle.characters.specs.TokenLaws.{TokenOn, token-on}
-use Rattle.records.specs.declared.row.Row.{Row}
+use Rattle.records.specs.declared.kind.Kind.{Kind}
 use Rattle.grammar.specs.declared.leaves.Prefix.{Prefix}
 use Rattle.grammar.specs.declared.leaves.Prefix.the-variants.{Sign, Other}
 use Rattle.grammar.specs.declared.leaves.Postfix.{Postfix}
 use Rattle.grammar.specs.declared.leaves.Postfix.the-variants as post
 use Rattle.grammar.specs.declared.leaves.Suffix.{Suffix}
 use Rattle.grammar.specs.declared.leaves.Atom.{Atom}
-use Rattle.grammar.specs.declared.leaves.Atom.the-variants.{Leaf, Paren, Bracket, Brace, Bar}
+use Rattle.grammar.specs.declared.leaves.Atom.the-variants.{Leaf, Paren, Bracket, Brace}
 use Rattle.grammar.specs.declared.leaves.Suffix.the-variants as suffix
 use Rattle.grammar.specs.declared.leaves.Link.{Link}
 use Rattle.grammar.specs.declared.leaves.Link.the-variants.{Choice, Operator}
@@ -70,17 +70,17 @@ found-on {s} {p} {h} {n} {l} b v e f = advanced-reached (subst (CloseOn s p) (sy
 pub missing-on : {s : Text} {p h : Place} {l : Look} (b : ℕ) → Stands s p → l ≡ closeOf s p b → l ≡ Missing h → Reached s p h
 missing-on {s} {p} {h} {l} b v e f = subst (CloseOn s p) (sym e ∙ f) (close-on s p b v) .0
 
-pub leaf-on : {s : Text} {p n : Place} {row : Row} {v : ℕ} {l : Atom} → Stands s p → l ≡ atomOf s p → l ≡ Leaf row v n → Reached s p n
-leaf-on h e f = advanced-reached (atom-at h e f .2)
+pub leaf-on : {s : Text} {p n : Place} {k : Kind} {v : ℕ} {l : Atom} → Stands s p → l ≡ atomOf s p → l ≡ Leaf k v n → Reached s p n
+leaf-on h e f = advanced-reached (atom-at h e f .1)
 
 pub paren-on : {s : Text} {p n : Place} {l : Atom} → Stands s p → l ≡ atomOf s p → l ≡ Paren n → Reached s p n
 paren-on h e f = advanced-reached (atom-at h e f)
 
-pub bracket-on : {s : Text} {p h n : Place} {l : Atom} → Stands s p → l ≡ atomOf s p → l ≡ Bracket h n → Reached s p n
-bracket-on v e f = advanced-reached (atom-at v e f .1)
+pub bracket-on : {s : Text} {p n : Place} {l : Atom} → Stands s p → l ≡ atomOf s p → l ≡ Bracket n → Reached s p n
+bracket-on h e f = advanced-reached (atom-at h e f)
 
-pub brace-on : {s : Text} {p h n : Place} {l : Atom} → Stands s p → l ≡ atomOf s p → l ≡ Brace h n → Reached s p n
-brace-on v e f = advanced-reached (atom-at v e f .1)
+pub brace-on : {s : Text} {p n : Place} {l : Atom} → Stands s p → l ≡ atomOf s p → l ≡ Brace n → Reached s p n
+brace-on h e f = advanced-reached (atom-at h e f)
 
 pub choice-on : {s : Text} {p n : Place} {l : Link} → Stands s p → l ≡ linkOf s p → l ≡ Choice n → Reached s p n
 choice-on {s} {p} {n} {l} v e f = advanced-reached (subst (LinkOn s p) (sym e ∙ f) (link-on s p v))

@@ -83,9 +83,9 @@ module _ {s : Text} {cap comps left : ℕ} {t : Tally} {r : Out} {A B : List ℕ
   unfolding prefixP
   by-prefix {p} {l} {x} v e f d = subst (λ (y : Prefix). Does layout (grammar s) cap comps left t (prefixAs s y) r A B) (sym f ∙ e) d
 
-  pub by-atom : {p : Place} {l x : Atom} → Stands s p → l ≡ atomOf s p → l ≡ x → Does layout (grammar s) cap comps left t (atomAs s x) r A B → Does layout (grammar s) cap comps left t (atomP s p) r A B
+  pub by-atom : {p : Place} {l x : Atom} → Stands s p → l ≡ atomOf s p → l ≡ x → Does layout (grammar s) cap comps left t (atomAs s p x) r A B → Does layout (grammar s) cap comps left t (atomP s p) r A B
   unfolding atomP
-  by-atom {p} {l} {x} v e f d = subst (λ (y : Atom). Does layout (grammar s) cap comps left t (atomAs s y) r A B) (sym f ∙ e) d
+  by-atom {p} {l} {x} v e f d = subst (λ (y : Atom). Does layout (grammar s) cap comps left t (atomAs s p y) r A B) (sym f ∙ e) d
 
   pub by-postfix : {p : Place} {l x : Postfix} (f : ℕ) (node : Node) → Stands s p → l ≡ postfixOf s p → l ≡ x
       → Does layout (grammar s) cap comps left t (postfixAs s node x (postfixesP f s)) r A B → Does layout (grammar s) cap comps left t (postfixesP (suc f) s node p) r A B

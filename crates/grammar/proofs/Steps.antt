@@ -25,7 +25,7 @@ use Rattle.grammar.specs.Expressions.{Routine}
 use Rattle.records.specs.declared.kind.Kind.{Kind}
 use Rattle.records.specs.declared.row.Row.{Row}
 use Rattle.records.specs.Rows.{Lent, layout, recordOf}
-use Rattle.grammar.specs.Leaves.{numberRow}
+use Rattle.grammar.specs.Leaves.{leafRow}
 use Rattle.grammar.specs.Contracts.{Ready, OnwardBy, Onward, Wrote}
 
 -- ---- where an answer stands
@@ -67,12 +67,12 @@ lent-on {s} {pool} {cap} {at} later k e = record { room = let z : cap * 8 ≤ le
 pub ready-on : {s pool : List ℕ} {cap : ℕ} {at p : Place} (later : List ℕ) → Ready s pool cap at → length later ≡ length pool → Stands s p → Ready s later cap p
 ready-on later k e h = record { short = k .short; small = k .small; lent = lent-on later k e; stands = h }
 
--- ---- a number literal's record, by its value
+-- ---- a leaf's record, by its value
 
 pub put-row : {cap : ℕ} {t : Tally} {at : Place} {kind : Kind} {position : Place} {row : Row} {v w : ℕ} {r : Out} {A B : List ℕ}
-    → row ≡ numberRow kind position v → v ≡ w → Makes layout cap t at (recordOf row) v r A B → Makes layout cap t at (recordOf (numberRow kind position w)) w r A B
+    → row ≡ leafRow kind position v → v ≡ w → Makes layout cap t at (recordOf row) v r A B → Makes layout cap t at (recordOf (leafRow kind position w)) w r A B
 put-row {cap} {t} {at} {kind} {position} {row} {v} {w} {r} {A} {B} e f h =
-    subst (λ (x : ℕ). Makes layout cap t at (recordOf (numberRow kind position x)) x r A B) f (subst (λ (x : Row). Makes layout cap t at (recordOf x) v r A B) e h)
+    subst (λ (x : ℕ). Makes layout cap t at (recordOf (leafRow kind position x)) x r A B) f (subst (λ (x : Row). Makes layout cap t at (recordOf x) v r A B) e h)
 
 -- ---- a refusal is handed on
 

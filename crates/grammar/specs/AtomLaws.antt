@@ -42,16 +42,16 @@ Near (Taken h q) = q .offset ≤ 65535
 Near (Failed k q) = Unit {0}
 
 abbrev pub stringAtom : Text → Place → Atom
-stringAtom s h = spanAtom kinds.String h (h .offset) (string s h)
+stringAtom s h = spanAtom kinds.String (h .offset) (string s h)
 
 abbrev pub hostAtom : Text → Place → Atom
-hostAtom s h = spanAtom kinds.Host h (h .offset + 1) (name s (onBy 1 h))
+hostAtom s h = spanAtom kinds.Host (h .offset + 1) (name s (onBy 1 h))
 
 -- a `#` stands here
 abbrev pub hashAtom : Text → Place → Atom
 hashAtom s h =
     elim (eqb (byteAt s (h .offset + 1)) 91) [
-      | true ↦ spanAtom kinds.Bytes h (h .offset) (bytearray s (onBy 2 h))
+      | true ↦ spanAtom kinds.Bytes (h .offset) (bytearray s (onBy 2 h))
       | false ↦ Wrong UnknownAtom h
     ]
 
@@ -61,12 +61,12 @@ signAtom s b h =
     elim (eqb b 40) [
       | true ↦ Paren (onBy 1 h)
       | false ↦ elim (eqb b 91) [
-        | true ↦ Bracket h (onBy 1 h)
+        | true ↦ Bracket (onBy 1 h)
         | false ↦ elim (eqb b 123) [
-          | true ↦ Brace h (onBy 1 h)
+          | true ↦ Brace (onBy 1 h)
           | false ↦ elim (eqb b 35) [
             | true ↦ hashAtom s h
-            | false ↦ elim (eqb b 36) [ true ↦ hostAtom s h | false ↦ elim (eqb b 124) [ true ↦ Bar h | false ↦ Wrong UnknownAtom h ] ]
+            | false ↦ elim (eqb b 36) [ true ↦ hostAtom s h | false ↦ elim (eqb b 124) [ true ↦ Bar | false ↦ Wrong UnknownAtom h ] ]
           ]
         ]
       ]
@@ -100,11 +100,11 @@ bytearray-spans s p h = go (bytearray s p) refl
     go (Taken a q) e = bytearray-accepted s p a q h e .1
     go (Failed k q) e = tt
 
--- a row's fields are plain words, so its record refers to none
-abbrev pub Plain : Row → Type 0
-Plain w = (i : ℕ) → isReference (meaningAt (w .kind) i) ≡ false
+-- the fields of a kind are plain words, so its record refers to none
+abbrev pub Plain : Kind → Type 0
+Plain k = (i : ℕ) → isReference (meaningAt k i) ≡ false
 
-pub plain-earlier : (w : Row) (made : ℕ) → Plain w → Earlier made (recordOf w .fields)
+pub plain-earlier : (w : Row) (made : ℕ) → Plain (w .kind) → Earlier made (recordOf w .fields)
 plain-earlier w made h =
     one 0 (w .a) (f 1 (w .b) ∷ f 2 (w .c) ∷ f 3 (w .d) ∷ [])
     (one 1 (w .b) (f 2 (w .c) ∷ f 3 (w .d) ∷ []) (one 2 (w .c) (f 3 (w .d) ∷ []) (one 3 (w .d) [] tt)))
@@ -115,32 +115,32 @@ plain-earlier w made h =
     one : (i k : ℕ) (fs : List Field) → Earlier made fs → Earlier made (f i k ∷ fs)
     one i k fs e = subst⁻¹ (λ (t : Bool). Earlier made (asField t k ∷ fs)) (h i) e
 
--- an atom begins where it was looked for; past it, or past the sign that opens it, the text goes on
+-- an atom's fields are plain; past it, or past the sign that opens it, the text goes on
 abbrev pub AtomOn : Text → Place → Atom → Type 0
-AtomOn s p (Leaf w v n) = (w .position ≡ p) × Plain w × Advanced s p n
+AtomOn s p (Leaf k v n) = Plain k × Advanced s p n
 AtomOn s p (Paren n) = Advanced s p n
-AtomOn s p (Bracket h n) = (h ≡ p) × Advanced s p n
-AtomOn s p (Brace h n) = (h ≡ p) × Advanced s p n
-AtomOn s p (Bar h) = h ≡ p
+AtomOn s p (Bracket n) = Advanced s p n
+AtomOn s p (Brace n) = Advanced s p n
+AtomOn s p Bar = Unit {0}
 AtomOn s p (Wrong k q) = Unit {0}
 
 -- the kinds of an atom's record
-no-fields : (k : Kind) → shape k .fields ≡ [] → (i : ℕ) → isReference (meaningAt k i) ≡ false
+no-fields : (k : Kind) → shape k .fields ≡ [] → Plain k
 no-fields k e i = ap (λ (l : List Meaning). isReference (getD l i unused)) e
 
-one-span : (k : Kind) → shape k .fields ≡ span ∷ [] → (i : ℕ) → isReference (meaningAt k i) ≡ false
+one-span : (k : Kind) → shape k .fields ≡ span ∷ [] → Plain k
 one-span k e i = ap (λ (l : List Meaning). isReference (getD l i unused)) e ∙ go i
   where
     go : (i : ℕ) → isReference (getD (span ∷ []) i unused) ≡ false
     go zero = refl
     go (suc i) = refl
 
-int-plain : (i : ℕ) → isReference (meaningAt kinds.Int i) ≡ false
+int-plain : Plain kinds.Int
 int-plain zero = refl
 int-plain (suc zero) = refl
 int-plain (suc (suc i)) = refl
 
-float-plain : (i : ℕ) → isReference (meaningAt kinds.Float i) ≡ false
+float-plain : Plain kinds.Float
 float-plain zero = refl
 float-plain (suc zero) = refl
 float-plain (suc (suc i)) = refl
@@ -150,21 +150,21 @@ module _ (s : Text) (p : Place) (h : Stands s p) where
   number-atom-on = go (number s p) (number-on s p h)
     where
       go : (x : Numeral) → NumeralOn s p x → AtomOn s p (numberAtom p x)
-      go (Int v q) a = (refl, int-plain, a .0)
-      go (Float q) a = (refl, float-plain, a)
+      go (Int v q) a = (int-plain, a .0)
+      go (Float q) a = (float-plain, a)
       go (Bad k q) a = tt
 
   -- what is read a little further on
-  span-atom-on : (k : Kind) (from : ℕ) (o : Place) (r : Must) → shape k .fields ≡ span ∷ [] → Reached s p o → SpanOn s o r → AtomOn s p (spanAtom k p from r)
-  span-atom-on k from o (Taken a q) e l g = (refl, one-span k e, advanced-on l g)
+  span-atom-on : (k : Kind) (from : ℕ) (o : Place) (r : Must) → shape k .fields ≡ span ∷ [] → Reached s p o → SpanOn s o r → AtomOn s p (spanAtom k from r)
+  span-atom-on k from o (Taken a q) e l g = (one-span k e, advanced-on l g)
   span-atom-on k from o (Failed j q) e l g = tt
 
   word-atom-on : (k : ℕ) (q : Place) → Advanced s p q → AtomOn s p (wordAtom k p q)
   word-atom-on k q a =
-      choice P (eqb k 0) (λ t. (refl, one-span kinds.Name refl, a))
-      (λ t. choice P (eqb k 1) (λ t. (refl, no-fields kinds.True refl, a))
-      (λ t. choice P (eqb k 2) (λ t. (refl, no-fields kinds.False refl, a))
-      (λ t. choice P (eqb k 3) (λ t. (refl, no-fields kinds.Nil refl, a)) (λ t. tt))))
+      choice P (eqb k 0) (λ t. (one-span kinds.Name refl, a))
+      (λ t. choice P (eqb k 1) (λ t. (no-fields kinds.True refl, a))
+      (λ t. choice P (eqb k 2) (λ t. (no-fields kinds.False refl, a))
+      (λ t. choice P (eqb k 3) (λ t. (no-fields kinds.Nil refl, a)) (λ t. tt))))
     where
       P : Atom → Type 0
       P = AtomOn s p
@@ -189,11 +189,11 @@ module _ (s : Text) (p : Place) (h : Stands s p) where
   sign-atom-on : (b : ℕ) → b ≡ byteAt s (p .offset) → AtomOn s p (signAtom s b p)
   sign-atom-on b e =
       choice P (eqb b 40) (λ t. sign 40 t (omega arith))
-      (λ t. choice P (eqb b 91) (λ t. (refl, sign 91 t (omega arith)))
-      (λ t. choice P (eqb b 123) (λ t. (refl, sign 123 t (omega arith)))
+      (λ t. choice P (eqb b 91) (λ t. sign 91 t (omega arith))
+      (λ t. choice P (eqb b 123) (λ t. sign 123 t (omega arith))
       (λ t. choice P (eqb b 35) (λ t. hash-atom-on)
       (λ t. choice P (eqb b 36) (λ t. host (sign 36 t (omega arith)))
-      (λ t. choice P (eqb b 124) (λ t. refl) (λ t. tt))))))
+      (λ t. choice P (eqb b 124) (λ t. tt) (λ t. tt))))))
     where
       P : Atom → Type 0
       P = AtomOn s p
@@ -217,7 +217,7 @@ atom-quote s b h d l q = rw (d, l, q, atomBy) refl
 
 -- what begins with none of these is decided by its sign
 abbrev lastAtom : Text → Place → Bool → Bool → Atom
-lastAtom s h host bar = elim host [ true ↦ hostAtom s h | false ↦ elim bar [ true ↦ Bar h | false ↦ Wrong UnknownAtom h ] ]
+lastAtom s h host bar = elim host [ true ↦ hostAtom s h | false ↦ elim bar [ true ↦ Bar | false ↦ Wrong UnknownAtom h ] ]
 
 sign-rest : (s : Text) (b : ℕ) (h : Place) (bytes : Atom) (t u : Bool) → eqb b 35 ≡ t
     → _≡_ {A = Atom}
@@ -232,8 +232,8 @@ sign-rest s b h bytes false u e = refl
 pub atom-sign : (s : Text) (b : ℕ) (h : Place) → isDigit b ≡ false → isLetter b ≡ false → isQuote b ≡ false → atomBy s b h ≡ signAtom s b h
 atom-sign s b h d l q =
     rw (d, l, q, atomBy) (
-    ap (λ (x : Atom). elim (eqb b 40) as (λ t. Atom) [ true ↦ Paren (onBy 1 h) | false ↦ elim (eqb b 91) as (λ t. Atom) [ true ↦ Bracket h (onBy 1 h) | false ↦ elim (eqb b 123) as (λ t. Atom) [ true ↦ Brace h (onBy 1 h) | false ↦ x ] ] ])
-    (sign-rest s b h (spanAtom kinds.Bytes h (h .offset) (bytearray s (onBy 2 h))) (eqb b 35) (eqb (byteAt s (h .offset + 1)) 91) refl)
+    ap (λ (x : Atom). elim (eqb b 40) as (λ t. Atom) [ true ↦ Paren (onBy 1 h) | false ↦ elim (eqb b 91) as (λ t. Atom) [ true ↦ Bracket (onBy 1 h) | false ↦ elim (eqb b 123) as (λ t. Atom) [ true ↦ Brace (onBy 1 h) | false ↦ x ] ] ])
+    (sign-rest s b h (spanAtom kinds.Bytes (h .offset) (bytearray s (onBy 2 h))) (eqb b 35) (eqb (byteAt s (h .offset + 1)) 91) refl)
     )
 
 -- Where an atom leads.

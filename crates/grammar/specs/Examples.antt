@@ -14,12 +14,13 @@ use Rattle.reading.specs.Events.{Rec, Outcome, recordsOf, comparisonsOf}
 use Rattle.reading.specs.Limits.{limited}
 use Rattle.reading.specs.Process.{reading, call}
 use Rattle.reading.specs.Answers.{answerOf}
+use Rattle.records.specs.declared.kind.Kind.{Kind}
 use Rattle.records.specs.declared.kind.Kind.the-variants as kinds
 use Rattle.records.specs.declared.row.Row.{Row}
 use Rattle.records.specs.Rows.{recordOf}
 use Rattle.records.specs.Words.{spanWord}
 use Rattle.grammar.specs.Operators.{firstOf, anyOf, isAssignment}
-use Rattle.grammar.specs.Leaves.{rowOf, spanRow, numberRow, prefixOf, atomOf, postfixOf, linkOf, closeOf, followOf, keyAt}
+use Rattle.grammar.specs.Leaves.{rowOf, leafRow, prefixOf, atomOf, postfixOf, linkOf, closeOf, followOf, keyAt}
 use Rattle.grammar.specs.Expressions.{Routine, expression, grammar}
 
 -- an expression at the start of a text, with a nesting limit, 100 records and 100 comparisons
@@ -33,6 +34,10 @@ says number line column records comparisons = record { number = number; line = l
 -- a place in the first line
 abbrev at : ℕ → Place
 at k = record { offset = k; line = 1; column = k + 1 }
+
+-- a row that holds a span of the text
+abbrev spanRow : Kind → Place → ℕ → ℕ → Row
+spanRow k p from to = rowOf k p (spanWord from to) 0 0
 
 -- a name of so many letters
 abbrev named : ℕ → ℕ → Rec
@@ -101,6 +106,6 @@ as-document-01-says = refl
 
 -- `-(5)`: the literal, and the negated one at its position
 negated : recordsOf (read (ascii "-(5);") 64 .events)
-    ≡ recordOf (numberRow kinds.Int (at 2) 5) ∷ recordOf (numberRow kinds.Int (at 2) 18446744073709551611) ∷ []
+    ≡ recordOf (leafRow kinds.Int (at 2) 5) ∷ recordOf (leafRow kinds.Int (at 2) 18446744073709551611) ∷ []
 unfolding read recordsOf
 negated = refl

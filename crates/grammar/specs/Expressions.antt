@@ -35,7 +35,7 @@ use Rattle.grammar.specs.declared.leaves.Link.{Link}
 use Rattle.grammar.specs.declared.leaves.Link.the-variants.{Choice, Operator, Assign, End}
 use Rattle.grammar.specs.declared.chain.Waiting.{Waiting}
 use Rattle.grammar.specs.Operators.{strengthOf, loosest}
-use Rattle.grammar.specs.Leaves.{rowOf, numberRow, prefixOf, atomOf, postfixOf, linkOf, closeOf, followOf, keyAt}
+use Rattle.grammar.specs.Leaves.{rowOf, leafRow, prefixOf, atomOf, postfixOf, linkOf, closeOf, followOf, keyAt}
 
 -- "one higher during each expression, operand of a prefix `!`, `-` or `+`": the routines that take a level
 pub data Routine : Type 0 where
@@ -132,17 +132,18 @@ unfoldable pub arrayP : Text → Place → Place → Rule
 unfolding listP
 arrayP s from p = bind (listP (turns s) s 93 0 0 p) (λ q l. make q (recordOf (rowOf kinds.Array from (l .number) 0 0)) 0)
 
-abbrev pub atomAs : Text → Atom → Rule
-atomAs s (Leaf row v next) = make next (recordOf row) v
-atomAs s (Paren next) = parenP s next
-atomAs s (Bracket h next) = arrayP s h next
-atomAs s (Brace h next) = dictP (turns s) s h [] 0 next
-atomAs s (Bar h) = stop UnknownAtom h
-atomAs s (atom.Wrong k q) = stop k q
+-- the atom at h
+abbrev pub atomAs : Text → Place → Atom → Rule
+atomAs s h (Leaf k v next) = make next (recordOf (leafRow k h v)) v
+atomAs s h (Paren next) = parenP s next
+atomAs s h (Bracket next) = arrayP s h next
+atomAs s h (Brace next) = dictP (turns s) s h [] 0 next
+atomAs s h Bar = stop UnknownAtom h
+atomAs s h (atom.Wrong k q) = stop k q
 
 unfoldable pub atomP : Text → Place → Rule
 unfolding atomOf parenP arrayP dictP
-atomP s p = atomAs s (atomOf s p)
+atomP s p = atomAs s p (atomOf s p)
 
 -- ---- postfix: atom { '(' list | '[' expression ']' | '.' name | 'instanceof' name }
 
@@ -200,8 +201,8 @@ bang = 2
 -- "Minus on a number literal gives the negated literal", "a second record", at the operand's position
 unfoldable pub minusP : Node → Place → Rule
 minusP e q =
-    test (is kinds.Int e) (make q (recordOf (numberRow kinds.Int (e .position) (minusInt (e .value)))) (minusInt (e .value)))
-    (test (is kinds.Float e) (make q (recordOf (numberRow kinds.Float (e .position) (minusFloat (e .value)))) (minusFloat (e .value)))
+    test (is kinds.Int e) (make q (recordOf (leafRow kinds.Int (e .position) (minusInt (e .value)))) (minusInt (e .value)))
+    (test (is kinds.Float e) (make q (recordOf (leafRow kinds.Float (e .position) (minusFloat (e .value)))) (minusFloat (e .value)))
     (make q (recordOf (rowOf kinds.Unary (e .position) minus (e .number) 0)) 0))
 
 -- plus on a number literal is that literal; on anything else it is 24

@@ -43,13 +43,10 @@ use Rattle.grammar.specs.Operators.{operators, firstOf, operatorOf, isAs
 abbrev pub rowOf : Kind → Place → ℕ → ℕ → ℕ → Row
 rowOf k p a b c = record { kind = k; position = p; a = a; b = b; c = c; d = 0 }
 
--- a row that holds a span of the text
-abbrev pub spanRow : Kind → Place → ℕ → ℕ → Row
-spanRow k p from to = rowOf k p (spanWord from to) 0 0
-
--- a number literal's row: its value in two words. An int's value is in two's complement; a float's is its span, and a minus mark above it
-abbrev pub numberRow : Kind → Place → ℕ → Row
-numberRow k p v = rowOf k p (lowOf v) (highOf v) 0
+-- a leaf's row: its value in two words. An int's value is in two's complement; a float's is its span, and a minus mark above it. What is a
+-- span of the text has its one word, and a word that says all has 0
+abbrev pub leafRow : Kind → Place → ℕ → Row
+leafRow k p v = rowOf k p (lowOf v) (highOf v) 0
 
 -- the value of an int literal, before any minus
 abbrev pub natOf : ℤ → ℕ
@@ -76,24 +73,24 @@ prefixOf s p = prefixPast s (blanks s p)
 -- ---- atoms
 
 abbrev pub numberAtom : Place → Numeral → Atom
-numberAtom h (Int v q) = Leaf (numberRow kinds.Int h (natOf v)) (natOf v) q
-numberAtom h (Float q) = Leaf (numberRow kinds.Float h (spanWord (h .offset) (q .offset))) (spanWord (h .offset) (q .offset)) q
+numberAtom h (Int v q) = Leaf kinds.Int (natOf v) q
+numberAtom h (Float q) = Leaf kinds.Float (spanWord (h .offset) (q .offset)) q
 numberAtom h (Bad k q) = atom.Wrong k q
 
 -- what is a span of the text up to a place
-abbrev pub spanAtom : Kind → Place → ℕ → Must → Atom
-spanAtom kind h from (Taken p q) = Leaf (spanRow kind h from (q .offset)) 0 q
-spanAtom kind h from (Failed k q) = atom.Wrong k q
+abbrev pub spanAtom : Kind → ℕ → Must → Atom
+spanAtom kind from (Taken p q) = Leaf kind (spanWord from (q .offset)) q
+spanAtom kind from (Failed k q) = atom.Wrong k q
 
 abbrev pub wordAtom : ℕ → Place → Place → Atom
 wordAtom k h q =
     elim (eqb k 0) [
-      | true ↦ Leaf (spanRow kinds.Name h (h .offset) (q .offset)) 0 q
+      | true ↦ Leaf kinds.Name (spanWord (h .offset) (q .offset)) q
       | false ↦ elim (eqb k 1) [
-        | true ↦ Leaf (rowOf kinds.True h 0 0 0) 0 q
+        | true ↦ Leaf kinds.True 0 q
         | false ↦ elim (eqb k 2) [
-          | true ↦ Leaf (rowOf kinds.False h 0 0 0) 0 q
-          | false ↦ elim (eqb k 3) [ true ↦ Leaf (rowOf kinds.Nil h 0 0 0) 0 q | false ↦ atom.Wrong ReservedWord h ]
+          | true ↦ Leaf kinds.False 0 q
+          | false ↦ elim (eqb k 3) [ true ↦ Leaf kinds.Nil 0 q | false ↦ atom.Wrong ReservedWord h ]
         ]
       ]
     ]
@@ -110,18 +107,18 @@ atomBy s b h =
       | false ↦ elim (isLetter b) [
         | true ↦ nameAtom s (name s h)
         | false ↦ elim (isQuote b) [
-          | true ↦ spanAtom kinds.String h (h .offset) (string s h)
+          | true ↦ spanAtom kinds.String (h .offset) (string s h)
           | false ↦ elim (eqb b 40) [
             | true ↦ Paren (onBy 1 h)
             | false ↦ elim (eqb b 91) [
-              | true ↦ Bracket h (onBy 1 h)
+              | true ↦ Bracket (onBy 1 h)
               | false ↦ elim (eqb b 123) [
-                | true ↦ Brace h (onBy 1 h)
+                | true ↦ Brace (onBy 1 h)
                 | false ↦ elim (eqb b 35 && eqb (byteAt s (h .offset + 1)) 91) [
-                  | true ↦ spanAtom kinds.Bytes h (h .offset) (bytearray s (onBy 2 h))
+                  | true ↦ spanAtom kinds.Bytes (h .offset) (bytearray s (onBy 2 h))
                   | false ↦ elim (eqb b 36) [
-                    | true ↦ spanAtom kinds.Host h (h .offset + 1) (name s (onBy 1 h))
-                    | false ↦ elim (eqb b 124) [ true ↦ Bar h | false ↦ atom.Wrong UnknownAtom h ]
+                    | true ↦ spanAtom kinds.Host (h .offset + 1) (name s (onBy 1 h))
+                    | false ↦ elim (eqb b 124) [ true ↦ Bar | false ↦ atom.Wrong UnknownAtom h ]
                   ]
                 ]
               ]

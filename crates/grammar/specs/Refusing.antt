@@ -368,11 +368,11 @@ prefix-proper s p = go (blanks s p) (blanks-proper s p)
 
 -- An atom is told, or is refused properly.
 abbrev pub AtomProper : Atom → Type 0
-AtomProper (atom.Leaf w v n) = Unit {0}
+AtomProper (atom.Leaf kind v n) = Unit {0}
 AtomProper (atom.Paren n) = Unit {0}
-AtomProper (atom.Bracket h n) = Unit {0}
-AtomProper (atom.Brace h n) = Unit {0}
-AtomProper (atom.Bar h) = Unit {0}
+AtomProper (atom.Bracket n) = Unit {0}
+AtomProper (atom.Brace n) = Unit {0}
+AtomProper atom.Bar = Unit {0}
 AtomProper (atom.Wrong k q) = T (proper k)
 
 -- A number is refused as an atom as it is by itself.
@@ -382,9 +382,9 @@ number-atom-proper h (Float q) g = tt
 number-atom-proper h (Bad k q) g = g
 
 -- So is what is a span of the text.
-span-atom-proper : (kind : Kind) (h : Place) (from : ℕ) (r : Must) → MustProper r → AtomProper (spanAtom kind h from r)
-span-atom-proper kind h from (Taken a q) g = tt
-span-atom-proper kind h from (Failed k q) g = g
+span-atom-proper : (kind : Kind) (from : ℕ) (r : Must) → MustProper r → AtomProper (spanAtom kind from r)
+span-atom-proper kind from (Taken a q) g = tt
+span-atom-proper kind from (Failed k q) g = g
 
 -- A word is refused by 12.
 word-atom-proper : (k : ℕ) (h q : Place) → AtomProper (wordAtom k h q)
@@ -404,13 +404,13 @@ unfolding atomOf
 atom-proper s h =
     choice AtomProper (isDigit b) (λ e. number-atom-proper h (number s h) (number-proper s h))
     (λ e. choice AtomProper (isLetter b) (λ e. name-atom-proper s (name s h) (name-proper s h))
-    (λ e. choice AtomProper (isQuote b) (λ e. span-atom-proper kinds.String h (h .offset) (string s h) (string-proper s h))
+    (λ e. choice AtomProper (isQuote b) (λ e. span-atom-proper kinds.String (h .offset) (string s h) (string-proper s h))
     (λ e. choice AtomProper (eqb b 40) (λ e. tt)
     (λ e. choice AtomProper (eqb b 91) (λ e. tt)
     (λ e. choice AtomProper (eqb b 123) (λ e. tt)
     (λ e. choice AtomProper (eqb b 35 && eqb (byteAt s (h .offset + 1)) 91)
-    (λ e. span-atom-proper kinds.Bytes h (h .offset) (bytes.bytearray s (onBy 2 h)) (bytearray-proper s (onBy 2 h)))
-    (λ e. choice AtomProper (eqb b 36) (λ e. span-atom-proper kinds.Host h (h .offset + 1) (name s (onBy 1 h)) (name-proper s (onBy 1 h)))
+    (λ e. span-atom-proper kinds.Bytes (h .offset) (bytes.bytearray s (onBy 2 h)) (bytearray-proper s (onBy 2 h)))
+    (λ e. choice AtomProper (eqb b 36) (λ e. span-atom-proper kinds.Host (h .offset + 1) (name s (onBy 1 h)) (name-proper s (onBy 1 h)))
     (λ e. choice AtomProper (eqb b 124) (λ e. tt) (λ e. tt)))))))))
   where
     b : ℕ

@@ -32,7 +32,7 @@ use Rattle.grammar.specs.declared.leaves.Suffix.{Suffix}
 use Rattle.grammar.specs.declared.leaves.Suffix.the-variants as suffix
 use Rattle.grammar.specs.declared.leaves.Link.{Link}
 use Rattle.grammar.specs.declared.leaves.Link.the-variants as link
-use Rattle.grammar.specs.Leaves.{prefixOf, atomOf, postfixOf, linkOf, closeOf, followOf, keyAt}
+use Rattle.grammar.specs.Leaves.{leafRow, prefixOf, atomOf, postfixOf, linkOf, closeOf, followOf, keyAt}
 use Rattle.grammar.specs.LeafLaws.{PrefixOn, prefix-on, PostfixOn, postfix-on, CloseOn, close-on, KeyOn, key-on}
 use Rattle.grammar.specs.LinkLaws.{LinkOn, link-on}
 use Rattle.grammar.specs.AtomLaws.{AtomOn, atom-on, plain-earlier}
@@ -217,16 +217,16 @@ module _ (s : Text) (m : ℕ) where
   unfolding atomP
   atom-works before p st i Q h = go (atomOf s p) (atom-on s p st) (atom-proper s p)
     where
-      go : (x : Atom) → AtomOn s p x → AtomProper x → Fits (choice s) m before Q (atomAs s x)
-      go (atom.Leaf row v n) g k = fits-make (plain-earlier row (length before) (g .1)) (λ now w. h now n _ (since-with w) (g .2) (omega arith))
+      go : (x : Atom) → AtomOn s p x → AtomProper x → Fits (choice s) m before Q (atomAs s p x)
+      go (atom.Leaf kind v n) g k = fits-make (plain-earlier (leafRow kind p v) (length before) (g .0)) (λ now w. h now n _ (since-with w) (g .1) (omega arith))
       go (atom.Paren n) g k =
           paren-works before n (g .stands) (below g i) Q (λ now q e since x number. h now q e since (advanced-on (advanced-reached g) x) number)
-      go (atom.Bracket a n) g k =
-          array-works before a n (g .1 .stands) (below (g .1) i) Q (λ now q e since x number. h now q e since (advanced-on (advanced-reached (g .1)) x) number)
-      go (atom.Brace a n) g k =
-          dict-works (turns s) before a [] 0 n (g .1 .stands) (enough s n) (omega arith) (below (g .1) i) Q
-          (λ now q e since x number. h now q e since (advanced-on (advanced-reached (g .1)) x) number)
-      go (atom.Bar a) g k = fits-stop tt
+      go (atom.Bracket n) g k =
+          array-works before p n (g .stands) (below g i) Q (λ now q e since x number. h now q e since (advanced-on (advanced-reached g) x) number)
+      go (atom.Brace n) g k =
+          dict-works (turns s) before p [] 0 n (g .stands) (enough s n) (omega arith) (below g i) Q
+          (λ now q e since x number. h now q e since (advanced-on (advanced-reached g) x) number)
+      go atom.Bar g k = fits-stop tt
       go (atom.Wrong r q) g k = fits-stop k
 
   -- ---- what follows a base

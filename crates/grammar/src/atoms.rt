@@ -11,89 +11,42 @@ use literals::numbers::Numeral;
 use literals::numbers::number;
 use literals::strings::string;
 use records::kind::Kind;
-use records::row::Row;
 use records::words::Span;
-use records::words::high;
-use records::words::low;
 ghost use mathlib.Core.Path.{_≡_};
 ghost use Prim.Native.Nat.{_≤_, _<_};
 ghost use lib.ListN.{length};
 ghost use Rattle.characters.specs.Text.{ByteOf, Stands};
 ghost use Rattle.characters.specs.Names.{name};
 ghost use Rattle.literals.specs.Numbers.{number};
-ghost use Rattle.grammar.specs.Leaves.{atomOf, nameAtom, numberAtom, numberRow, rowOf, spanAtom, spanRow, wordAtom};
+ghost use Rattle.records.specs.Words.{spanWord};
+ghost use Rattle.grammar.specs.Leaves.{atomOf, nameAtom, numberAtom, spanAtom, wordAtom};
 ghost use Rattle.grammar.specs.AtomLaws.{Near, hashAtom, hostAtom, signAtom, stringAtom};
 
-// The atom of a word that says all: no field is used.
-fn bare(kind: Kind, here: Place, next: Place) -> Atom
-    ensures { λ r. ⌜ r ≡ Atom.Leaf (rowOf kind here 0 0 0) 0 next ⌝ }
-{
-    let row = Row {
-        kind,
-        position: here,
-        a: 0,
-        b: 0,
-        c: 0,
-        d: 0,
-    };
-    Atom::Leaf {
-        row,
-        value: 0,
-        next,
-    }
-}
-
-// The atom that is a span of the text, from `from` up to `next`.
-fn spanned(kind: Kind, here: Place, from: u32, next: Place) -> Atom
-    requires { ⌜ (from ≤ 65535) × (next .offset ≤ 65535) ⌝ }
-    ensures { λ r. ⌜ r ≡ Atom.Leaf (spanRow kind here from (next .offset)) 0 next ⌝ }
+// A span of the text as a leaf's value.
+fn span_value(from: u32, to: u32) -> u64
+    requires { ⌜ (from ≤ 65535) × (to ≤ 65535) ⌝ }
+    ensures { λ r. ⌜ r ≡ spanWord from to ⌝ }
 {
     let span = Span {
         start: from,
-        end: next.offset,
+        end: to,
     };
-    let a = span.word();
-    let row = Row {
-        kind,
-        position: here,
-        a,
-        b: 0,
-        c: 0,
-        d: 0,
-    };
-    Atom::Leaf {
-        row,
-        value: 0,
-        next,
-    }
+    let word = span.word();
+    word as u64
 }
 
-// The same of what was read from `from` on.
-fn span_atom(kind: Kind, here: Place, from: u32, read: Must) -> Atom
+// The atom that is a span of the text, of what was read from `from` on.
+fn span_atom(kind: Kind, from: u32, read: Must) -> Atom
     requires { ⌜ (from ≤ 65535) × Near read ⌝ }
-    ensures { λ r. ⌜ r ≡ spanAtom kind here from read ⌝ }
+    ensures { λ r. ⌜ r ≡ spanAtom kind from read ⌝ }
 {
     match read {
-        Must::Taken { here: _, next } => spanned(kind, here, from, next),
+        Must::Taken { here: _, next } => {
+            let value = span_value(from, next.offset);
+            Atom::Leaf { kind, value, next }
+        }
         Must::Failed { refusal, at } => Atom::Wrong { refusal, at },
     }
-}
-
-// The atom of a number, whose value takes two words.
-fn numbered(kind: Kind, here: Place, value: u64, next: Place) -> Atom
-    ensures { λ r. ⌜ r ≡ Atom.Leaf (numberRow kind here value) value next ⌝ }
-{
-    let a = low(value);
-    let b = high(value);
-    let row = Row {
-        kind,
-        position: here,
-        a,
-        b,
-        c: 0,
-        d: 0,
-    };
-    Atom::Leaf { row, value, next }
 }
 
 // The number at `at`: an int's value, or a float's span.
@@ -105,16 +58,19 @@ fn number_atom(text: &[u8], at: Place) -> Atom
     match read {
         Numeral::Int { value, next } => {
             let v = value as u64;
-            numbered(Kind::Int, at, v, next)
+            Atom::Leaf {
+                kind: Kind::Int,
+                value: v,
+                next,
+            }
         }
         Numeral::Float { next } => {
-            let span = Span {
-                start: at.offset,
-                end: next.offset,
-            };
-            let w = span.word();
-            let v = w as u64;
-            numbered(Kind::Float, at, v, next)
+            let value = span_value(at.offset, next.offset);
+            Atom::Leaf {
+                kind: Kind::Float,
+                value,
+                next,
+            }
         }
         Numeral::Bad { refusal, at: q } => Atom::Wrong { refusal, at: q },
     }
@@ -126,10 +82,29 @@ fn word_atom(k: u32, here: Place, next: Place) -> Atom
     ensures { λ r. ⌜ r ≡ wordAtom k here next ⌝ }
 {
     match k {
-        0 => spanned(Kind::Name, here, here.offset, next),
-        1 => bare(Kind::True, here, next),
-        2 => bare(Kind::False, here, next),
-        3 => bare(Kind::Nil, here, next),
+        0 => {
+            let value = span_value(here.offset, next.offset);
+            Atom::Leaf {
+                kind: Kind::Name,
+                value,
+                next,
+            }
+        }
+        1 => Atom::Leaf {
+            kind: Kind::True,
+            value: 0,
+            next,
+        },
+        2 => Atom::Leaf {
+            kind: Kind::False,
+            value: 0,
+            next,
+        },
+        3 => Atom::Leaf {
+            kind: Kind::Nil,
+            value: 0,
+            next,
+        },
         _ => Atom::Wrong {
             refusal: Refusal::ReservedWord,
             at: here,
@@ -158,7 +133,7 @@ fn string_atom(text: &[u8], at: Place) -> Atom
     ensures { λ r. ⌜ r ≡ stringAtom (now (text .entry)) at ⌝ }
 {
     let read = string(text, at);
-    span_atom(Kind::String, at, at.offset, read)
+    span_atom(Kind::String, at.offset, read)
 }
 
 // The host name behind the `$` at `at`; the span leaves the sign out.
@@ -169,7 +144,7 @@ fn host_atom(text: &[u8], at: Place) -> Atom
     let p = at.on(1);
     let read = name(text, p);
     let from = p.offset;
-    span_atom(Kind::Host, at, from, read)
+    span_atom(Kind::Host, from, read)
 }
 
 // The bytearray that the `#` at `at` begins, or 13 where no `[` follows.
@@ -187,7 +162,7 @@ fn hash_atom(text: &[u8], at: Place) -> Atom
     }
     let p = at.on(2);
     let read = bytearray(text, p);
-    span_atom(Kind::Bytes, at, at.offset, read)
+    span_atom(Kind::Bytes, at.offset, read)
 }
 
 // The atom that begins with the sign `b`, which stands at `at`; 13 where none does.
@@ -202,15 +177,15 @@ fn sign_atom(text: &[u8], b: u32, at: Place) -> Atom
         }
         91 => {
             let next = at.on(1);
-            Atom::Bracket { here: at, next }
+            Atom::Bracket { next }
         }
         123 => {
             let next = at.on(1);
-            Atom::Brace { here: at, next }
+            Atom::Brace { next }
         }
         35 => hash_atom(text, at),
         36 => host_atom(text, at),
-        124 => Atom::Bar { here: at },
+        124 => Atom::Bar,
         _ => Atom::Wrong {
             refusal: Refusal::UnknownAtom,
             at,

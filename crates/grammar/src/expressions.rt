@@ -18,6 +18,7 @@ use crate::leaves::prefix_of;
 use crate::operators::link_of;
 use crate::operators::strength_of;
 use crate::rows::item;
+use crate::rows::leaf_row;
 use crate::rows::listed;
 use crate::rows::pair_row;
 use crate::rows::row;
@@ -282,13 +283,16 @@ fn atom(text: &[u8], pool: &mut [u32], cap: u32, comps: u32, left: u32, at: Plac
 {
     let begin = atom_of(text, at);
     match begin {
-        Atom::Leaf { row, value, next } => put(pool, cap, t, next, row, value),
+        Atom::Leaf { kind, value, next } => {
+            let made = leaf_row(kind, at, value);
+            put(pool, cap, t, next, made, value)
+        }
         Atom::Paren { next } => paren(text, pool, cap, comps, left, next, t),
-        Atom::Bracket { here, next } => array(text, pool, cap, comps, left, here, next, t),
-        Atom::Brace { here, next } => dict(text, pool, cap, comps, left, here, next, t),
-        Atom::Bar { here } => Out::Refused {
+        Atom::Bracket { next } => array(text, pool, cap, comps, left, at, next, t),
+        Atom::Brace { next } => dict(text, pool, cap, comps, left, at, next, t),
+        Atom::Bar => Out::Refused {
             refusal: Refusal::UnknownAtom,
-            at: here,
+            at,
             tally: t,
         },
         Atom::Wrong { refusal, at: q } => Out::Refused {

@@ -13,7 +13,7 @@ use characters::tokens::need;
 use characters::tokens::sign;
 use characters::tokens::spelled;
 use literals::strings::string;
-use records::row::Row;
+use records::kind::Kind;
 use records::words::Span;
 ghost use mathlib.Core.Path.{_≡_};
 ghost use Prim.Native.Nat.{_+_, _<_, _≤_, _^_};
@@ -30,13 +30,13 @@ pub enum Prefix {
     Wrong { refusal: Refusal, at: Place },
 }
 
-// An atom: one record with its value and the place after it, or what opens a longer one.
+// An atom: the kind and the value of its one record, or what opens a longer one; with the place after it.
 pub enum Atom {
-    Leaf { row: Row, value: u64, next: Place },
+    Leaf { kind: Kind, value: u64, next: Place },
     Paren { next: Place },
-    Bracket { here: Place, next: Place },
-    Brace { here: Place, next: Place },
-    Bar { here: Place },
+    Bracket { next: Place },
+    Brace { next: Place },
+    Bar,
     Wrong { refusal: Refusal, at: Place },
 }
 

@@ -9,7 +9,7 @@ use records::words::low;
 ghost use mathlib.Core.Path.{_≡_};
 ghost use Prim.Native.Nat.{_≤_};
 ghost use Rattle.reading.specs.Entry.{nowhere};
-ghost use Rattle.grammar.specs.Leaves.{numberRow, rowOf};
+ghost use Rattle.grammar.specs.Leaves.{leafRow, rowOf};
 ghost use Rattle.grammar.specs.Expressions.{listNode, pairRow};
 
 // A row with a kind, a position and up to three fields.
@@ -64,9 +64,9 @@ pub fn pair_row(element: u32, last: u32, key: Span) -> Row
     row(Kind::Pair, nowhere, element, last, word)
 }
 
-// A number literal's row: its value in two words.
-pub fn number_row(kind: Kind, position: Place, value: u64) -> Row
-    ensures { λ r. ⌜ r ≡ numberRow kind position value ⌝ }
+// A leaf's row: its value in two words.
+pub fn leaf_row(kind: Kind, position: Place, value: u64) -> Row
+    ensures { λ r. ⌜ r ≡ leafRow kind position value ⌝ }
 {
     let a = low(value);
     let b = high(value);

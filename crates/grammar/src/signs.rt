@@ -1,5 +1,5 @@
 // What a prefix sign makes of its operand.
-use crate::rows::number_row;
+use crate::rows::leaf_row;
 use characters::place::Place;
 use characters::refusal::Refusal;
 use reading::answer::Out;
@@ -51,12 +51,12 @@ fn minus(pool: &mut [u32], cap: u32, t: Tally, node: Node, at: Place) -> Out
     let position = node.position;
     if node.kind == 4 {
         let value = minus_int(node.value);
-        let row = number_row(Kind::Int, position, value);
+        let row = leaf_row(Kind::Int, position, value);
         return put(pool, cap, t, at, row, value);
     }
     if node.kind == 5 {
         let value = minus_float(node.value);
-        let row = number_row(Kind::Float, position, value);
+        let row = leaf_row(Kind::Float, position, value);
         return put(pool, cap, t, at, row, value);
     }
     let row = Row {

@@ -14,29 +14,20 @@ enum-known-read c = search needs
 cast-v : tie.Need-cast-v
 cast-v c = int-casts (c .before .read .given .0 .0) (int-small (c .before .before .before .before .before .pre .0) (c .before .before .before .number .ensures) (c .before .read .given .1))
 
-numbered-requires : tie.Need-numbered-requires
-numbered-requires c κs = search needs
-
 enum-known-read-2 : tie.Need-enum-known-read-2
 enum-known-read-2 c = search needs
 
-word-requires : tie.Need-word-requires
-word-requires c κs = float-spans (c .before .before .before .before .before .pre .0) (c .before .before .before .before .before .pre .1) (c .before .before .before .number .ensures) (c .before .read2 .given .1)
-
-cast-v-2 : tie.Need-cast-v-2
-cast-v-2 c = search needs
-
-numbered-requires-2 : tie.Need-numbered-requires-2
-numbered-requires-2 c κs = search needs
+span-value-requires : tie.Need-span-value-requires
+span-value-requires c κs = float-spans (c .before .before .before .before .before .pre .0) (c .before .before .before .before .before .pre .1) (c .before .before .before .number .ensures) (c .before .read2 .given .1)
 
 enum-known-read-3 : tie.Need-enum-known-read-3
 enum-known-read-3 c = search needs
 
 returns : tie.Need-returns
-returns c = int-by (c .before .before .before .before .before .before .pre .0) (c .before .before .before .before .number .ensures) (c .before .before .read .given .1) (c .numbered .ensures)
+returns c = int-by (c .before .before .before .before .before .pre .0) (c .before .before .before .number .ensures) (c .before .read .given .1)
 
 returns-2 : tie.Need-returns-2
-returns-2 c = float-by (c .before .before .before .before .before .before .before .args .text .now) (c .before .before .before .before .before .before .before .args .at) _ (c .before .before .before .before .before .number .ensures) (c .before .before .before .read2 .given .1) (c .before .word .ensures) (c .numbered2 .ensures)
+returns-2 c = float-by (c .before .before .before .before .before .before .args .text .now) (c .before .before .before .before .before .before .args .at) _ (c .before .before .before .before .number .ensures) (c .before .before .read2 .given .1) (c .span-value .ensures)
 
 returns-3 : tie.Need-returns-3
 returns-3 c = bad-by (c .before .before .before .before .before .args .text .now) (c .before .before .before .before .before .args .at) (c .before .before .before .number .ensures) (c .before .read3 .given .1)
@@ -48,11 +39,8 @@ number-atom-spec =
     number-requires
     enum-known-read
     cast-v
-    numbered-requires
     enum-known-read-2
-    word-requires
-    cast-v-2
-    numbered-requires-2
+    span-value-requires
     enum-known-read-3
     returns
     returns-2

@@ -27,10 +27,10 @@ returns : tie.Need-returns
 returns c = sign-at (c .before .before .before .args .text .now) (c .before .before .before .args .at) 40 (c .before .match .keys1) (ap Paren (c .on .ensures))
 
 returns-2 : tie.Need-returns-2
-returns-2 c = sign-at (c .before .before .before .args .text .now) (c .before .before .before .args .at) 91 (c .before .match .keys2) (ap (Bracket (c .before .before .before .args .at)) (c .on2 .ensures))
+returns-2 c = sign-at (c .before .before .before .args .text .now) (c .before .before .before .args .at) 91 (c .before .match .keys2) (ap Bracket (c .on2 .ensures))
 
 returns-3 : tie.Need-returns-3
-returns-3 c = sign-at (c .before .before .before .args .text .now) (c .before .before .before .args .at) 123 (c .before .match .keys3) (ap (Brace (c .before .before .before .args .at)) (c .on3 .ensures))
+returns-3 c = sign-at (c .before .before .before .args .text .now) (c .before .before .before .args .at) 123 (c .before .match .keys3) (ap Brace (c .on3 .ensures))
 
 returns-4 : tie.Need-returns-4
 returns-4 c = sign-at (c .before .before .before .args .text .now) (c .before .before .before .args .at) 35 (c .before .match .keys4) (c .hash-atom .ensures)

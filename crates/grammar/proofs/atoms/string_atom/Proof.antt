@@ -14,7 +14,7 @@ span-atom-requires : tie.Need-span-atom-requires
 span-atom-requires c κs = (offset-near (c .before .before .pre .0) (c .before .before .pre .1), span-near (c .before .before .args .text .now) (c .before .before .args .at) (c .before .before .pre .1) (string-on _ _ (c .before .before .pre .0)) (c .string .ensures))
 
 returns : tie.Need-returns
-returns c = span-by kinds.String (c .before .before .before .args .at) (c .before .before .before .args .at .offset) (sym (c .before .string .ensures)) (c .span-atom .ensures)
+returns c = span-by kinds.String (c .before .before .before .args .at .offset) (sym (c .before .string .ensures)) (c .span-atom .ensures)
 
 pub string-atom-spec : {M : Type 1} → statement M
 string-atom-spec = tie.close (tie.spec string-requires span-atom-requires returns)

@@ -90,6 +90,7 @@ use Rattle.grammar.proofs.leaves.prefix_of.Reads as prefix-of-reads
 use Rattle.grammar.proofs.operators.link_of.Reads as link-of-reads
 use Rattle.grammar.proofs.operators.strength_of.Reads as strength-of-reads
 use Rattle.grammar.proofs.rows.item.Reads as item-reads
+use Rattle.grammar.proofs.rows.leaf_row.Reads as leaf-row-reads
 use Rattle.grammar.proofs.rows.listed.Reads as listed-reads
 use Rattle.grammar.proofs.rows.pair_row.Reads as pair-row-reads
 use Rattle.grammar.proofs.rows.row.Reads as row-reads
@@ -289,7 +290,7 @@ unfolding arrayP
 array-returns-2 t c = record { does = then (told (c .before .before .before .before .before .before .items .given .1) (c .before .before .before .before .before .before .before .before .before .before .list .ensures .does)) (by-make (rowed (c .before .before .before .before .row .ensures) (c .before .before .put .ensures))); onward = later (moved (c .before .before .before .before .before .before .before .before .before .before .list .ensures .onward) (c .before .before .before .before .before .before .items .given .1)) (put-on (c .before .before .put .ensures) ((moved (c .before .before .before .before .before .before .before .before .before .before .list .ensures .onward) (c .before .before .before .before .before .before .items .given .1)) .stands)) }
 
 abbrev atom-calls : ℕ → atom-lts.Claims
-atom-calls t = (atom-of-reads.Asked, atom-of-reads.Learnt, put-reads.Asked, put-reads.Learnt, paren-below t, paren.Post, array-below t, array.Post, dict-below t, dict.Post)
+atom-calls t = (atom-of-reads.Asked, atom-of-reads.Learnt, leaf-row-reads.Asked, leaf-row-reads.Learnt, put-reads.Asked, put-reads.Learnt, paren-below t, paren.Post, array-below t, array.Post, dict-below t, dict.Post)
 
 atom-atom-of-requires : (t : ℕ) → atom-lts.Need-atom-of-requires (atom-calls t) (atom-at t) atom.Post
 atom-atom-of-requires t c κs = ((c .before .before .pre .1 .stands), (c .before .before .pre .1) .short)
@@ -297,8 +298,11 @@ atom-atom-of-requires t c κs = ((c .before .before .pre .1 .stands), (c .before
 atom-enum-known-begin : (t : ℕ) → atom-lts.Need-enum-known-begin (atom-calls t) (atom-at t) atom.Post
 atom-enum-known-begin t c = search needs
 
+atom-leaf-row-requires : (t : ℕ) → atom-lts.Need-leaf-row-requires (atom-calls t) (atom-at t) atom.Post
+atom-leaf-row-requires t c κs = search needs
+
 atom-put-requires : (t : ℕ) → atom-lts.Need-put-requires (atom-calls t) (atom-at t) atom.Post
-atom-put-requires t c κs = (c .before .before .before .before .before .before .before .pre .1) .lent
+atom-put-requires t c κs = (c .before .before .before .before .before .before .before .before .pre .1) .lent
 
 atom-enum-known-begin-2 : (t : ℕ) → atom-lts.Need-enum-known-begin-2 (atom-calls t) (atom-at t) atom.Post
 atom-enum-known-begin-2 t c = search needs
@@ -318,17 +322,17 @@ atom-enum-known-begin-4 t c = search needs
 atom-dict-requires : (t : ℕ) → atom-lts.Need-dict-requires (atom-calls t) (atom-at t) atom.Post
 atom-dict-requires t c κs = let k = ready-at (c .before .before .before .before .before .before .before .pre .1) (brace-on (c .before .before .before .before .before .before .before .pre .1 .stands) (c .before .before .before .before .atom-of .ensures) (c .before .before .begin4 .given .1) .stands) in search needs
 
+atom-enum-told : (t : ℕ) → atom-lts.Need-enum-told (atom-calls t) (atom-at t) atom.Post
+atom-enum-told t c = search needs
+
 atom-enum-known-begin-5 : (t : ℕ) → atom-lts.Need-enum-known-begin-5 (atom-calls t) (atom-at t) atom.Post
 atom-enum-known-begin-5 t c = search needs
-
-atom-enum-known-begin-6 : (t : ℕ) → atom-lts.Need-enum-known-begin-6 (atom-calls t) (atom-at t) atom.Post
-atom-enum-known-begin-6 t c = search needs
 
 atom-same-length : (t : ℕ) → atom-lts.Need-same-length (atom-calls t) (atom-at t) atom.Post
 atom-same-length t c = search needs
 
 atom-returns : (t : ℕ) → atom-lts.Need-returns (atom-calls t) (atom-at t) atom.Post
-atom-returns t c = record { does = by-atom (c .before .before .before .before .before .before .before .before .before .before .pre .1 .stands) (c .before .before .before .before .before .before .before .atom-of .ensures) (c .before .before .before .before .before .begin .given .1) (by-make (c .before .before .put .ensures)); onward = later (leaf-on (c .before .before .before .before .before .before .before .before .before .before .pre .1 .stands) (c .before .before .before .before .before .before .before .atom-of .ensures) (c .before .before .before .before .before .begin .given .1)) (put-on (c .before .before .put .ensures) (leaf-on (c .before .before .before .before .before .before .before .before .before .before .pre .1 .stands) (c .before .before .before .before .before .before .before .atom-of .ensures) (c .before .before .before .before .before .begin .given .1) .stands)) }
+atom-returns t c = record { does = by-atom (c .before .before .before .before .before .before .before .before .before .before .before .pre .1 .stands) (c .before .before .before .before .before .before .before .before .atom-of .ensures) (c .before .before .before .before .before .before .begin .given .1) (by-make (rowed (c .before .before .before .before .leaf-row .ensures) (c .before .before .put .ensures))); onward = later (leaf-on (c .before .before .before .before .before .before .before .before .before .before .before .pre .1 .stands) (c .before .before .before .before .before .before .before .before .atom-of .ensures) (c .before .before .before .before .before .before .begin .given .1)) (put-on (c .before .before .put .ensures) (leaf-on (c .before .before .before .before .before .before .before .before .before .before .before .pre .1 .stands) (c .before .before .before .before .before .before .before .before .atom-of .ensures) (c .before .before .before .before .before .before .begin .given .1) .stands)) }
 
 atom-same-length-2 : (t : ℕ) → atom-lts.Need-same-length-2 (atom-calls t) (atom-at t) atom.Post
 atom-same-length-2 t c = search needs
@@ -349,10 +353,10 @@ atom-returns-4 : (t : ℕ) → atom-lts.Need-returns-4 (atom-calls t) (atom-at t
 atom-returns-4 t c = record { does = by-atom (c .before .before .before .before .before .before .before .before .before .before .pre .1 .stands) (c .before .before .before .before .before .before .before .atom-of .ensures) (c .before .before .before .before .before .begin4 .given .1) (c .before .before .dict .ensures .does); onward = later (brace-on (c .before .before .before .before .before .before .before .before .before .before .pre .1 .stands) (c .before .before .before .before .before .before .before .atom-of .ensures) (c .before .before .before .before .before .begin4 .given .1)) (c .before .before .dict .ensures .onward) }
 
 atom-returns-5 : (t : ℕ) → atom-lts.Need-returns-5 (atom-calls t) (atom-at t) atom.Post
-atom-returns-5 t c = record { does = by-atom (c .before .before .before .before .before .before .pre .1 .stands) (c .before .before .before .atom-of .ensures) (c .before .begin5 .given .1) by-stop; onward = refused }
+atom-returns-5 t c = record { does = by-atom (c .before .before .before .before .before .pre .1 .stands) (c .before .before .atom-of .ensures) (c .enum-told .given .1) by-stop; onward = refused }
 
 atom-returns-6 : (t : ℕ) → atom-lts.Need-returns-6 (atom-calls t) (atom-at t) atom.Post
-atom-returns-6 t c = record { does = by-atom (c .before .before .before .before .before .before .pre .1 .stands) (c .before .before .before .atom-of .ensures) (c .before .begin6 .given .1) by-stop; onward = refused }
+atom-returns-6 t c = record { does = by-atom (c .before .before .before .before .before .before .pre .1 .stands) (c .before .before .before .atom-of .ensures) (c .before .begin5 .given .1) by-stop; onward = refused }
 
 abbrev call-calls : ℕ → call-lts.Claims
 call-calls t = (list-below t, list.Post, row-reads.Asked, row-reads.Learnt, put-reads.Asked, put-reads.Learnt)
@@ -1285,6 +1289,7 @@ pub +array+atom+call+chain+choice+dict+element+expr+extend+index+list+pair+paren
     atom.Post
     (atom-atom-of-requires t)
     (atom-enum-known-begin t)
+    (atom-leaf-row-requires t)
     (atom-put-requires t)
     (atom-enum-known-begin-2 t)
     (atom-paren-requires t)
@@ -1292,8 +1297,8 @@ pub +array+atom+call+chain+choice+dict+element+expr+extend+index+list+pair+paren
     (atom-array-requires t)
     (atom-enum-known-begin-4 t)
     (atom-dict-requires t)
+    (atom-enum-told t)
     (atom-enum-known-begin-5 t)
-    (atom-enum-known-begin-6 t)
     (atom-same-length t)
     (atom-returns t)
     (atom-same-length-2 t)

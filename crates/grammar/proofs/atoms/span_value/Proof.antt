@@ -1,0 +1,16 @@
+-- `span_value` packs the span in one word. Assumes nothing.
+use borrow.Author.Needs.{needs}
+use Rattle.grammar.proofs.atoms.span_value.Statement.{statement}
+use Rattle.grammar.proofs.atoms.span_value.Tie as tie
+
+word-requires : tie.Need-word-requires
+word-requires c κs = search needs
+
+cast-result : tie.Need-cast-result
+cast-result c = search needs
+
+returns : tie.Need-returns
+returns c = c .word .ensures
+
+pub span-value-spec : {M : Type 1} → statement M
+span-value-spec = tie.close (tie.spec word-requires cast-result returns)

@@ -15,8 +15,9 @@ use Rattle.reading.specs.declared.answer.Out.{Out}
 use Rattle.reading.specs.declared.answer.Out.the-variants.{Read, Refused}
 use Rattle.characters.specs.declared.tokens.Must.{Must}
 use Rattle.characters.specs.declared.tokens.Must.the-variants.{Taken, Failed}
+use Rattle.records.specs.declared.kind.Kind.{Kind}
 use Rattle.records.specs.declared.row.Row.{Row}
-use Rattle.reading.specs.Laws.Does.{by-done}
+use Rattle.reading.specs.Laws.Does.{by-done, by-make}
 use Rattle.grammar.specs.declared.leaves.Suffix.{Suffix}
 use Rattle.grammar.specs.Operators.{loosest}
 use Rattle.grammar.specs.LeafLaws.{KeyOn, key-on}
@@ -27,15 +28,18 @@ use Rattle.reading.specs.Says.{Makes, Does}
 use Rattle.records.specs.Rows.{layout, recordOf}
 use Rattle.grammar.specs.declared.leaves.Prefix.{Prefix}
 use Rattle.grammar.specs.declared.leaves.Atom.{Atom}
+use Rattle.grammar.specs.declared.leaves.Atom.the-variants.{Leaf}
 use Rattle.grammar.specs.declared.leaves.Postfix.{Postfix}
 use Rattle.grammar.specs.declared.leaves.Link.{Link}
 use Rattle.grammar.specs.declared.chain.Chain.{Chain}
-use Rattle.grammar.specs.Leaves.{prefixOf, atomOf, postfixOf, linkOf, keyAt}
+use Rattle.grammar.specs.Leaves.{leafRow, prefixOf, atomOf, postfixOf, linkOf, keyAt}
 use Rattle.grammar.specs.Expressions.{Routine, Rule, turns, grammar, listP, keySpan, pairP, withKey, dictP, extendP, reduceP, atomAs, atomP, postfixAs, postfixesP, prefixAs, prefixP, Pending, linkAs, chainP}
 use Rattle.characters.specs.declared.refusal.Refusal.{Refusal}
 use Rattle.grammar.specs.declared.chain.Reduced.{Reduced}
 use Rattle.grammar.specs.Chains.{pendingOf, Rising, Reduces}
 use Rattle.grammar.specs.Keys.{Listed, keysOf}
+use Rattle.grammar.proofs.Steps.{later, put-on}
+use Rattle.grammar.proofs.Leads.{leaf-on}
 
 -- where a loop stands: in the text, with turns enough for what is left of it
 pub record Turning (s : Text) (at here : Place) : Type 0 where
@@ -158,6 +162,13 @@ module _ {cap : ℕ} {t : Tally} {at : Place} {c : Chain} {right : Node} {before
 
 pub rowed : {cap : ℕ} {t : Tally} {at : Place} {row row′ : Row} {v : ℕ} {r : Out} {A B : List ℕ} → row ≡ row′ → Makes layout cap t at (recordOf row) v r A B → Makes layout cap t at (recordOf row′) v r A B
 rowed {cap} {t} {at} {row} {row′} {v} {r} {A} {B} e h = subst (λ (x : Row). Makes layout cap t at (recordOf x) v r A B) e h
+
+-- a leaf's record is the atom
+pub leaf-wrote : {s : Text} {cap : ℕ} (comps left : ℕ) {t : Tally} {p n : Place} {l : Atom} {k : Kind} {v : ℕ} {row : Row} {r : Out} {A B : List ℕ} → Stands s p → l ≡ atomOf s p → l ≡ Leaf k v n
+    → row ≡ leafRow k p v → Makes layout cap t n (recordOf row) v r A B → Wrote s cap comps left p t (atomP s p) r A B
+leaf-wrote comps left h e f g m =
+    let on = leaf-on h e f in
+    record { does = by-atom h e f (by-make (rowed g m)); onward = later on (put-on m (on .stands)) }
 
 pub done-as : {G : Grammar Routine} {cap comps left : ℕ} {t : Tally} {p : Place} {n m : Node} {A : List ℕ} → n ≡ m → Does layout G cap comps left t (done p m) (Read p n t) A A
 done-as {G} {cap} {comps} {left} {t} {p} {n} {m} {A} e = subst⁻¹ (λ (x : Node). Does layout G cap comps left t (done p m) (Read p x t) A A) e by-done

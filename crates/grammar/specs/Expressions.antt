@@ -37,11 +37,16 @@ use Rattle.grammar.specs.declared.chain.Waiting.{Waiting}
 use Rattle.grammar.specs.Operators.{strengthOf, loosest}
 use Rattle.grammar.specs.Leaves.{rowOf, leafRow, prefixOf, atomOf, postfixOf, linkOf, closeOf, followOf, keyAt}
 
--- "one higher during each expression, operand of a prefix `!`, `-` or `+`": the routines that take a level
+-- "one higher during each expression, operand of a prefix `!`, `-` or `+`, statement, function or lambda, and class": the routines that
+-- take a level
 pub data Routine : Type 0 where
   expression : Routine
   before-assignment : Routine  -- an expression that an assignment sign may follow
   operand : Routine
+  statement : Routine
+  function : Place → ℕ → Routine  -- a named function, from after its name on: its position, and its name as a span
+  lambda : Routine  -- from its `|` on
+  class : Place → List Span → Routine  -- from after `class` on: its position, and the names of the classes before it, newest first
 
 abbrev pub Rule : Type 0
 Rule = Process Routine
@@ -133,16 +138,20 @@ unfolding listP
 arrayP s from p = bind (listP (turns s) s 93 0 0 p) (λ q l. make q (recordOf (rowOf kinds.Array from (l .number) 0 0)) 0)
 
 -- the atom at h
+-- a lambda's function, and the closure of it at the same position
+unfoldable pub closureP : Place → Rule
+closureP h = bind (call lambda h) (λ q f. make q (recordOf (rowOf kinds.Closure h (f .number) 0 0)) 0)
+
 abbrev pub atomAs : Text → Place → Atom → Rule
 atomAs s h (Leaf k v next) = make next (recordOf (leafRow k h v)) v
 atomAs s h (Paren next) = parenP s next
 atomAs s h (Bracket next) = arrayP s h next
 atomAs s h (Brace next) = dictP (turns s) s h [] 0 next
-atomAs s h Bar = stop UnknownAtom h
+atomAs s h Bar = closureP h
 atomAs s h (atom.Wrong k q) = stop k q
 
 unfoldable pub atomP : Text → Place → Rule
-unfolding atomOf parenP arrayP dictP
+unfolding atomOf parenP arrayP dictP closureP
 atomP s p = atomAs s p (atomOf s p)
 
 -- ---- postfix: atom { '(' list | '[' expression ']' | '.' name | 'instanceof' name }
@@ -271,9 +280,14 @@ unfoldable pub expressionP : Text → Bool → Place → Rule
 unfolding prefixP chainP
 expressionP s allowed p = bind (prefixP s p) (λ q e. chainP (turns s) s allowed [] e q)
 
--- THE GRAMMAR
+-- THE GRAMMAR of expressions alone, by which the readers read so far: what a lambda holds are statements, so here it is 13.
+-- Grammar.antt has the whole.
 unfoldable pub grammar : Text → Grammar Routine
 unfolding expressionP prefixP
 grammar s expression p = expressionP s false p
 grammar s before-assignment p = expressionP s true p
 grammar s operand p = prefixP s p
+grammar s statement p = stop UnknownAtom p
+grammar s (function from name) p = stop UnknownAtom p
+grammar s lambda p = stop UnknownAtom p
+grammar s (class from names) p = stop UnknownAtom p

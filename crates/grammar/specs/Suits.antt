@@ -3,7 +3,7 @@
 use mathlib.Core.Path.{_≡_, refl, sym, subst}
 use mathlib.Core.List.{List, [], _∷_}
 use mathlib.Core.Bool.{Bool, true, false}
-use Prim.Native.Nat.{ℕ, zero, suc, _+_, _-_, _≤_, _<_}
+use Prim.Native.Nat.{ℕ, zero, suc, _+_, _-_, _≤_, _<_, _*_}
 use native.Mathlib.Omega.{arith}
 use lib.ListN.{length}
 use Rattle.characters.specs.declared.place.Place.{Place}
@@ -38,24 +38,47 @@ use Rattle.grammar.specs.LinkLaws.{LinkOn, link-on}
 use Rattle.grammar.specs.AtomLaws.{AtomOn, atom-on, plain-earlier}
 use Rattle.grammar.specs.Leads.{ExpectedOn, expected-leads, FollowOn, follow-leads}
 use Rattle.grammar.specs.Refusing.{MustProper, LookProper, token-proper, expected-proper, PrefixProper, prefix-proper, AtomProper, atom-proper, PostfixProper, postfix-proper, close-proper, follow-proper, key-proper}
-use Rattle.grammar.specs.Expressions.{Routine, expression, before-assignment, operand, Rule, turns, elementP, listP, newKey, valueP, pairP, dictP, parenP, arrayP, atomAs, atomP, callP, indexP, extendP, postfixAs, postfixesP, postfixP, minusP, plusP, signP, prefixAs, prefixP, Pending, reduceP, choiceP, linkAs, chainP, expressionP, grammar}
+use Rattle.grammar.specs.Expressions.{Routine, expression, before-assignment, operand, statement, function, lambda, class, Rule, turns, elementP, listP, newKey, valueP, pairP, dictP, parenP, arrayP, closureP, atomAs, atomP, callP, indexP, extendP, postfixAs, postfixesP, postfixP, minusP, plusP, signP, prefixAs, prefixP, Pending, reduceP, choiceP, linkAs, chainP, expressionP, grammar}
+
+-- A lambda is called where its expression begins, so it weighs less.
+abbrev pub weight : Routine → ℕ
+weight expression = 1
+weight before-assignment = 1
+weight operand = 1
+weight statement = 1
+weight (function from name) = 1
+weight lambda = 0
+weight (class from names) = 1
+
+weight-most : (nt : Routine) → weight nt ≤ 1
+weight-most expression = omega arith
+weight-most before-assignment = omega arith
+weight-most operand = omega arith
+weight-most statement = omega arith
+weight-most (function from name) = omega arith
+weight-most lambda = omega arith
+weight-most (class from names) = omega arith
 
 -- The rest of the text falls; a routine begins in the text, and its answer stands further on, with a record that was made; records refer
 -- to earlier ones.
 abbrev pub choice : Text → Choice Routine
 choice s =
     record {
-      measure = λ nt p. length s - p .offset;
+      measure = λ nt p. weight nt + 2 * (length s - p .offset);
       asks = λ nt p before. Stands s p;
       claim = λ nt p before now q n. Advanced s p q × (n .number ≤ length now);
       fine = λ before r. Earlier (length before) (r .fields);
     }
 
+-- The measure of a routine that weighs 1, with so much of the text left.
+abbrev under : ℕ → ℕ
+under m = 1 + 2 * m
+
 -- Whoever takes a rule's answer may count on this: it stands where R says, with a record that was made.
 abbrev Works : Text → ℕ → List Rec → (Place → Type 0) → Rule → Type 1
 Works s m before R P =
     (Q : Claim) → ((now : List Rec) (q : Place) (n : Node) → Since before now → R q → n .number ≤ length now → Q now q n)
-    → Fits (choice s) m before Q P
+    → Fits (choice s) (under m) before Q P
 
 -- ---- how the rest of the text falls
 
@@ -65,6 +88,13 @@ below {s} {p} {q} a h =
     let i : q .offset ≤ length s = a .stands .inside in
     let l : p .offset < q .offset = a .further in
     omega arith
+
+-- Less of the text is a lower measure, and so is a lighter routine.
+double : {a m : ℕ} → a < m → 1 + 2 * a < under m
+double h = omega arith
+
+lighter : {a m : ℕ} → a ≤ m → 0 + 2 * a < under m
+lighter h = omega arith
 
 -- A place reached has no more of it.
 still : {s : Text} {p q : Place} {m : ℕ} → Reached s p q → length s - p .offset < m → length s - q .offset < m
@@ -139,7 +169,7 @@ module _ (s : Text) (m : ℕ) where
       → Works s m before (Advanced s p) (elementP last p)
   unfolding elementP
   element-works before last p st l i Q h =
-      fits-bind (fits-call st i (λ now q e a b.
+      fits-bind (fits-call st (double i) (λ now q e a b.
       fits-make (b .1, (omega arith, tt)) (λ now′ w. h now′ q _ (since-trans a (since-with w)) (b .0) (omega arith))))
 
   -- A list has turns enough, for each reads a comma.
@@ -164,7 +194,7 @@ module _ (s : Text) (m : ℕ) where
   unfolding valueP
   value-works before from q st i Q h =
       fits-token s q (ascii ":") st
-      (λ a n g. fits-call (g .stands) (still g i) (λ now r e since b. h now r e since (reached-on g (advanced-reached (b .0))) (b .1)))
+      (λ a n g. fits-call (g .stands) (double (still g i)) (λ now r e since b. h now r e since (reached-on g (advanced-reached (b .0))) (b .1)))
       (λ a g. fits-make tt (λ now w. h now a _ (since-with w) g (omega arith)))
 
   -- A pair moves on over its key, and its item refers to its value and to the item before.
@@ -200,7 +230,7 @@ module _ (s : Text) (m : ℕ) where
   paren-works : (before : List Rec) (p : Place) → Stands s p → length s - p .offset < m → Works s m before (Advanced s p) (parenP s p)
   unfolding parenP
   paren-works before p st i Q h =
-      fits-bind (fits-call st i (λ now q e a b. fits-expected s q (ascii ")") (b .0 .stands) (λ c n g.
+      fits-bind (fits-call st (double i) (λ now q e a b. fits-expected s q (ascii ")") (b .0 .stands) (λ c n g.
       let y : p .offset < q .offset = b .0 .further in
       let z : q .offset ≤ n .offset = g .further in
       fits-done (h now n e a (record { stands = g .stands; further = omega arith }) (b .1)))))
@@ -214,10 +244,10 @@ module _ (s : Text) (m : ℕ) where
 
   -- An atom moves on, and goes deeper only past the sign that opens it.
   atom-works : (before : List Rec) (p : Place) → Stands s p → length s - p .offset ≤ m → Works s m before (Advanced s p) (atomP s p)
-  unfolding atomP
+  unfolding atomP closureP
   atom-works before p st i Q h = go (atomOf s p) (atom-on s p st) (atom-proper s p)
     where
-      go : (x : Atom) → AtomOn s p x → AtomProper x → Fits (choice s) m before Q (atomAs s p x)
+      go : (x : Atom) → AtomOn s p x → AtomProper x → Fits (choice s) (under m) before Q (atomAs s p x)
       go (atom.Leaf kind v n) g k = fits-make (plain-earlier (leafRow kind p v) (length before) (g .0)) (λ now w. h now n _ (since-with w) (g .1) (omega arith))
       go (atom.Paren n) g k =
           paren-works before n (g .stands) (below g i) Q (λ now q e since x number. h now q e since (advanced-on (advanced-reached g) x) number)
@@ -226,7 +256,9 @@ module _ (s : Text) (m : ℕ) where
       go (atom.Brace n) g k =
           dict-works (turns s) before p [] 0 n (g .stands) (enough s n) (omega arith) (below g i) Q
           (λ now q e since x number. h now q e since (advanced-on (advanced-reached g) x) number)
-      go atom.Bar g k = fits-stop tt
+      go atom.Bar g k =
+          fits-bind (fits-call st (lighter i) (λ now q f since b. fits-make (b .1, tt)
+          (λ now′ w. h now′ q _ (since-trans since (since-with w)) (b .0) (omega arith))))
       go (atom.Wrong r q) g k = fits-stop k
 
   -- ---- what follows a base
@@ -245,7 +277,7 @@ module _ (s : Text) (m : ℕ) where
       → Works s m before (Advanced s p) (indexP s base a p)
   unfolding indexP
   index-works before base a p st l i Q h =
-      fits-bind (fits-call st i (λ now q e since b. fits-expected s q (ascii "]") (b .0 .stands) (λ c n g.
+      fits-bind (fits-call st (double i) (λ now q e since b. fits-expected s q (ascii "]") (b .0 .stands) (λ c n g.
       let y : p .offset < q .offset = b .0 .further in
       let z : q .offset ≤ n .offset = g .further in
       let number : e .number ≤ length now = b .1 in
@@ -276,8 +308,8 @@ module _ (s : Text) (m : ℕ) where
       (λ now′ q′ e′ since′ x′ number′. h now′ q′ e′ (since-trans since since′) (reached-on (advanced-reached x) x′) number′))
     where
       go : (x : Postfix) → PostfixOn s p x → PostfixProper x
-          → ((now : List Rec) (q : Place) (e : Node) → Since before now → Advanced s p q → e .number ≤ length now → Fits (choice s) m now Q (postfixesP f s e q))
-          → Fits (choice s) m before Q (postfixAs s base x (postfixesP f s))
+          → ((now : List Rec) (q : Place) (e : Node) → Since before now → Advanced s p q → e .number ≤ length now → Fits (choice s) (under m) now Q (postfixesP f s e q))
+          → Fits (choice s) (under m) before Q (postfixAs s base x (postfixesP f s))
       go (post.More x) g c again = fits-bind (extend-works before base p x g l i _ again)
       go (post.Rest a) g c again = fits-done (h before a base (since-same before) g l)
       go (post.Wrong r q) g c again = fits-stop c
@@ -321,10 +353,10 @@ module _ (s : Text) (m : ℕ) where
   unfolding prefixP
   prefix-works before p st i Q h = go (prefixOf s p) (prefix-on s p st) (prefix-proper s p)
     where
-      go : (x : Prefix) → PrefixOn s p x → PrefixProper x → Fits (choice s) m before Q (prefixAs s x)
+      go : (x : Prefix) → PrefixOn s p x → PrefixProper x → Fits (choice s) (under m) before Q (prefixAs s x)
       go (prefix.Sign sign a n) g k =
           let y : Advanced s p n = advanced-on (g .0) (g .1) in
-          fits-bind (fits-call (y .stands) (below y i) (λ now q e since b. sign-works now sign a e q (b .1) Q
+          fits-bind (fits-call (y .stands) (double (below y i)) (λ now q e since b. sign-works now sign a e q (b .1) Q
           (λ now′ q′ e′ since′ z number. h now′ q′ e′ (since-trans since since′) (subst (Advanced s p) (sym z) (advanced-on (advanced-reached y) (b .0))) number)))
       go (prefix.Other a) g k =
           postfix-works before a (g .stands) (most g i) Q (λ now q e since x number. h now q e since (advanced-on g x) number)
@@ -346,8 +378,8 @@ module _ (s : Text) (m : ℕ) where
   -- Binaries are made of records that were made, and the rule goes on.
   reduce-fits : (new : ℕ) (p : Place) (xs : Pending) (right : Node) (next : Pending → Node → Rule) (before : List Rec) (Q : Claim)
       → Held (length before) xs → right .number ≤ length before
-      → ((now : List Rec) (ys : Pending) (e : Node) → Since before now → Held (length now) ys → e .number ≤ length now → Fits (choice s) m now Q (next ys e))
-      → Fits (choice s) m before Q (reduceP new p xs right next)
+      → ((now : List Rec) (ys : Pending) (e : Node) → Since before now → Held (length now) ys → e .number ≤ length now → Fits (choice s) (under m) now Q (next ys e))
+      → Fits (choice s) (under m) before Q (reduceP new p xs right next)
   unfolding reduceP
   reduce-fits new p [] right next before Q hs l k = k before [] right (since-same before) tt l
   reduce-fits new p (x ∷ xs) right next before Q hs l k =
@@ -362,9 +394,9 @@ module _ (s : Text) (m : ℕ) where
       → Works s m before (Advanced s p) (choiceP s e p)
   unfolding choiceP
   choice-works before e p st l i Q h =
-      fits-bind (fits-call st i (λ now q a since b. fits-expected s q (ascii ":") (b .0 .stands) (λ c n g.
+      fits-bind (fits-call st (double i) (λ now q a since b. fits-expected s q (ascii ":") (b .0 .stands) (λ c n g.
       let r : Reached s p n = reached-on (advanced-reached (b .0)) g in
-      fits-bind (fits-call (r .stands) (still r i) (λ now′ q′ a′ since′ b′.
+      fits-bind (fits-call (r .stands) (double (still r i)) (λ now′ q′ a′ since′ b′.
       let first : a .number ≤ length now = b .1 in
       let longer : length now ≤ length now′ = since′ .longer in
       let before-that : length before ≤ length now = since .longer in
@@ -384,12 +416,12 @@ module _ (s : Text) (m : ℕ) where
       (λ now′ q′ e′ since′ x′ number′. h now′ q′ e′ (since-trans since since′) (reached-on (advanced-reached x) x′) number′))
     where
       -- The chain ends here.
-      over : Fits (choice s) m before Q (linkAs s allowed xs right p link.End (λ ys r q. chainP f s allowed ys r q))
+      over : Fits (choice s) (under m) before Q (linkAs s allowed xs right p link.End (λ ys r q. chainP f s allowed ys r q))
       over = reduce-fits _ p xs right _ before Q hs l (λ now ys e since hs′ number. fits-done (h now p e since (reached-here st) number))
 
       go : (x : Link) → LinkOn s p x
-          → ((now : List Rec) (ys : Pending) (e : Node) (q : Place) → Since before now → Advanced s p q → Held (length now) ys → e .number ≤ length now → Fits (choice s) m now Q (chainP f s allowed ys e q))
-          → Fits (choice s) m before Q (linkAs s allowed xs right p x (λ ys r q. chainP f s allowed ys r q))
+          → ((now : List Rec) (ys : Pending) (e : Node) (q : Place) → Since before now → Advanced s p q → Held (length now) ys → e .number ≤ length now → Fits (choice s) (under m) now Q (chainP f s allowed ys e q))
+          → Fits (choice s) (under m) before Q (linkAs s allowed xs right p x (λ ys r q. chainP f s allowed ys r q))
       go (link.Choice n) g again =
           reduce-fits _ n xs right _ before Q hs l (λ now ys e since hs′ number.
           choice-works now e n (g .stands) number (below g i) Q
@@ -423,13 +455,21 @@ unfolding grammar
 rules-fit s expression p before st = expression-works s (length s - p .offset) before false p st (omega arith) _ (λ now q n a b c. (b, c))
 rules-fit s before-assignment p before st = expression-works s (length s - p .offset) before true p st (omega arith) _ (λ now q n a b c. (b, c))
 rules-fit s operand p before st = prefix-works s (length s - p .offset) before p st (omega arith) _ (λ now q n a b c. (b, c))
+rules-fit s statement p before st = fits-stop tt
+rules-fit s (function from name) p before st = fits-stop tt
+rules-fit s lambda p before st = fits-stop tt
+rules-fit s (class from names) p before st = fits-stop tt
 
--- The grammar suits from any routine at any place of the text, with as many levels as the text has bytes, and one.
-pub suits-at : (s : Text) (nt : Routine) (p : Place) → Stands s p → Suits (grammar s) (choice s) (call nt p) (suc (length s))
+-- Levels enough for every text: two for each byte, and two.
+abbrev pub levels : Text → ℕ
+levels s = 2 + 2 * length s
+
+-- The grammar suits from any routine at any place of the text, with so many levels.
+pub suits-at : (s : Text) (nt : Routine) (p : Place) → Stands s p → Suits (grammar s) (choice s) (call nt p) (levels s)
 suits-at s nt p st =
     record {
       rules = λ nt p before a. rules-fit s nt p before a .meets;
-      whole = (st, omega arith, λ now q n a b. tt);
+      whole = (st, (let w = weight-most nt in omega arith), λ now q n a b. tt);
       earlier = λ before r h. h;
     }
 
@@ -438,19 +478,19 @@ first-stands : (s : Text) → length s ≤ 65535 → Stands s first
 first-stands s l = record { short = omega arith; inside = omega arith; lines = omega arith; columns = omega arith }
 
 -- THE GRAMMAR OF EXPRESSIONS SUITS: an expression from the first place on, in a text of at most 65,535 bytes.
-pub suits : (s : Text) → length s ≤ 65535 → Suits (grammar s) (choice s) (call expression first) (suc (length s))
+pub suits : (s : Text) → length s ≤ 65535 → Suits (grammar s) (choice s) (call expression first) (levels s)
 suits s l = suits-at s expression first (first-stands s l)
 
 -- So the promises hold of it. Its unlimited reading has read an expression, or a rule refused;
-pub expression-ends : (s : Text) → length s ≤ 65535 → Proper (unlimited (grammar s) (call expression first) (suc (length s)) .end)
-expression-ends s l = ends (grammar s) (choice s) (call expression first) (suc (length s)) (suits s l)
+pub expression-ends : (s : Text) → length s ≤ 65535 → Proper (unlimited (grammar s) (call expression first) (levels s) .end)
+expression-ends s l = ends (grammar s) (choice s) (call expression first) (levels s) (suits s l)
 
 -- every call is that reading, stopped at the first event that is over a limit;
 pub expression-exact : (s : Text) → length s ≤ 65535 → (o : Opening) (L : Limits)
-    → entry (grammar s) (call expression first) o L ≡ opened o L (cut L start (unlimited (grammar s) (call expression first) (suc (length s))))
-expression-exact s l o L = exact (grammar s) (choice s) (call expression first) (suc (length s)) (suits s l) o L
+    → entry (grammar s) (call expression first) o L ≡ opened o L (cut L start (unlimited (grammar s) (call expression first) (levels s)))
+expression-exact s l o L = exact (grammar s) (choice s) (call expression first) (levels s) (suits s l) o L
 
 -- and in every call a record refers only to earlier ones.
 pub expression-earlier : (s : Text) → length s ≤ 65535 → (o : Opening) (L : Limits)
     → AllEarlier 0 (recordsOf (entry (grammar s) (call expression first) o L .events))
-expression-earlier s l o L = earlier (grammar s) (choice s) (call expression first) (suc (length s)) (suits s l) o L
+expression-earlier s l o L = earlier (grammar s) (choice s) (call expression first) (levels s) (suits s l) o L

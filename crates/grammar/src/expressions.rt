@@ -44,7 +44,7 @@ ghost use Rattle.reading.specs.Entry.{nowhere};
 ghost use Rattle.reading.specs.Process.{call};
 ghost use Rattle.grammar.specs.Contracts.{Finished, Paired, Ready, SuffixReady, WellListed, Wrote, suffixAt};
 ghost use Rattle.grammar.specs.Expressions.{arrayP, atomP, callP, chainP, choiceP, dictP, elementP, expression, extendP, indexP, itemRow, listNode, listP, pairRow, parenP, postfixP, postfixesP, prefixP, turns, valueP};
-ghost use Rattle.grammar.specs.Leaves.{rowOf};
+ghost use Rattle.grammar.specs.Leaves.{atomOf, rowOf};
 
 // expression: prefix { operator prefix } [ '?' expression ':' expression ]
 pub fn expr(
@@ -130,11 +130,29 @@ fn postfix(
     requires { ⌜ Ready (now text) (now pool) cap at ⌝ }
     ensures { λ r. ⌜ Wrote (now (text .entry)) cap comps left at t (postfixP (now (text .entry)) at) r (now (pool .entry)) (now (pool .exit)) ⌝ }
 {
-    let base = atom(text, pool, cap, comps, left, at, t);
-    let Out::Read { at: q, node, tally } = base else {
-        return base;
+    let begin = atom_of(text, at);
+    let Atom::Leaf { kind, value, next } = begin else {
+        let base = atom(text, pool, cap, comps, left, at, begin, t);
+        let Out::Read { at: q, node, tally } = base else {
+            return base;
+        };
+        return postfixes(text, pool, cap, comps, left, node, q, tally);
     };
-    postfixes(text, pool, cap, comps, left, node, q, tally)
+    // Most operands are one leaf with nothing behind it: it needs no level of its own.
+    let made = leaf_row(kind, at, value);
+    let leaf = put(pool, cap, t, next, made, value);
+    let Out::Read { at: q, node, tally } = leaf else {
+        return leaf;
+    };
+    let more = postfix_of(text, q);
+    let Postfix::Rest { here } = more else {
+        return postfixes(text, pool, cap, comps, left, node, q, tally);
+    };
+    Out::Read {
+        at: here,
+        node,
+        tally,
+    }
 }
 
 // { '(' list | '[' expression ']' | '.' name | 'instanceof' name }
@@ -276,12 +294,20 @@ fn index(
     }
 }
 
-// atom: literal | name | '$' name | '(' expression ')' | '[' list | '{' dictionary
-fn atom(text: &[u8], pool: &mut [u32], cap: u32, comps: u32, left: u32, at: Place, t: Tally) -> Out
-    requires { ⌜ Ready (now text) (now pool) cap at ⌝ }
+// atom: literal | name | '$' name | '(' expression ')' | '[' list | '{' dictionary, by what begins it
+fn atom(
+    text: &[u8],
+    pool: &mut [u32],
+    cap: u32,
+    comps: u32,
+    left: u32,
+    at: Place,
+    begin: Atom,
+    t: Tally,
+) -> Out
+    requires { ⌜ Ready (now text) (now pool) cap at × (begin ≡ atomOf (now text) at) ⌝ }
     ensures { λ r. ⌜ Wrote (now (text .entry)) cap comps left at t (atomP (now (text .entry)) at) r (now (pool .entry)) (now (pool .exit)) ⌝ }
 {
-    let begin = atom_of(text, at);
     match begin {
         Atom::Leaf { kind, value, next } => {
             let made = leaf_row(kind, at, value);
@@ -290,11 +316,21 @@ fn atom(text: &[u8], pool: &mut [u32], cap: u32, comps: u32, left: u32, at: Plac
         Atom::Paren { next } => paren(text, pool, cap, comps, left, next, t),
         Atom::Bracket { next } => array(text, pool, cap, comps, left, at, next, t),
         Atom::Brace { next } => dict(text, pool, cap, comps, left, at, next, t),
-        Atom::Bar => Out::Refused {
-            refusal: Refusal::UnknownAtom,
-            at,
-            tally: t,
-        },
+        Atom::Bar => {
+            // A lambda takes a level. What it holds is not read yet, so it is 13.
+            if left == 0 {
+                return Out::Refused {
+                    refusal: Refusal::TooDeep,
+                    at,
+                    tally: t,
+                };
+            }
+            Out::Refused {
+                refusal: Refusal::UnknownAtom,
+                at,
+                tally: t,
+            }
+        }
         Atom::Wrong { refusal, at: q } => Out::Refused {
             refusal,
             at: q,

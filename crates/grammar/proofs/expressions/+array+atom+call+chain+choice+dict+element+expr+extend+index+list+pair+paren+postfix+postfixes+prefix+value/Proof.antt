@@ -13,12 +13,12 @@ use Rattle.reading.specs.Laws.Does.{by-done, by-stop, by-make, then, stops, tol
 use Rattle.grammar.specs.Leaves.{keyAt}
 use Rattle.grammar.specs.Chains.{pendingOf}
 use Rattle.grammar.specs.Contracts.{SuffixReady}
-use Rattle.grammar.specs.Expressions.{grammar, waits, expressionP, postfixP, postfixesP, callP, indexP, parenP, arrayP, elementP, listP, choiceP, valueP, pairP, withKey, dictP, reduceP, chainP, prefixP}
+use Rattle.grammar.specs.Expressions.{grammar, waits, expressionP, postfixP, postfixesP, callP, indexP, parenP, arrayP, closureP, elementP, listP, choiceP, valueP, pairP, withKey, dictP, reduceP, chainP, prefixP}
 use Rattle.grammar.specs.ChainLaws.{rising-empty, rising-room, rising-pushed}
 use Rattle.grammar.specs.KeyLaws.{well-chained, key-then, key-stops, kept, listed-none, listed-kept, listed-does, listed-put}
 use Rattle.grammar.proofs.Steps.{refused, moved, later, stays, put-on, ready-at, lent-on, ready-on, halts, off}
-use Rattle.grammar.proofs.Leads.{taken-on, closed-on, comma-on, sign-on, other-on, more-on, rest-on, found-on, missing-on, leaf-on, paren-on, bracket-on, brace-on, choice-on, operator-on, colon-on, no-colon-on}
-use Rattle.grammar.proofs.Rounds.{Postfixing, Listing, Dicting, Chaining, turn-first, turn-on, turn-fuel, turn-less, go-on, by-prefix, by-atom, by-postfix, by-link, same-turns, same-pending, finished-done, finished-on, rowed, done-as, suffix-ready, suffix-wrote, key-taken, well-listed, pair-by, pair-listed, listed-with, reduced-by, refused-not-read}
+use Rattle.grammar.proofs.Leads.{taken-on, closed-on, comma-on, sign-on, other-on, more-on, rest-on, found-on, missing-on, paren-on, bracket-on, brace-on, choice-on, operator-on, colon-on, no-colon-on}
+use Rattle.grammar.proofs.Rounds.{Postfixing, Listing, Dicting, Chaining, turn-first, turn-on, turn-fuel, turn-less, go-on, by-prefix, by-atom, by-postfix, by-link, same-turns, same-pending, finished-done, finished-on, rowed, leaf-wrote, done-as, suffix-ready, suffix-wrote, key-taken, well-listed, pair-by, pair-listed, listed-with, reduced-by, refused-not-read}
 use borrow.Author.Needs.{needs}
 use Prim.Native.Nat.{ℕ, _<_}
 use borrow.Fn.Kinds.{In}
@@ -290,10 +290,7 @@ unfolding arrayP
 array-returns-2 t c = record { does = then (told (c .before .before .before .before .before .before .items .given .1) (c .before .before .before .before .before .before .before .before .before .before .list .ensures .does)) (by-make (rowed (c .before .before .before .before .row .ensures) (c .before .before .put .ensures))); onward = later (moved (c .before .before .before .before .before .before .before .before .before .before .list .ensures .onward) (c .before .before .before .before .before .before .items .given .1)) (put-on (c .before .before .put .ensures) ((moved (c .before .before .before .before .before .before .before .before .before .before .list .ensures .onward) (c .before .before .before .before .before .before .items .given .1)) .stands)) }
 
 abbrev atom-calls : ℕ → atom-lts.Claims
-atom-calls t = (atom-of-reads.Asked, atom-of-reads.Learnt, leaf-row-reads.Asked, leaf-row-reads.Learnt, put-reads.Asked, put-reads.Learnt, paren-below t, paren.Post, array-below t, array.Post, dict-below t, dict.Post)
-
-atom-atom-of-requires : (t : ℕ) → atom-lts.Need-atom-of-requires (atom-calls t) (atom-at t) atom.Post
-atom-atom-of-requires t c κs = ((c .before .before .pre .1 .stands), (c .before .before .pre .1) .short)
+atom-calls t = (leaf-row-reads.Asked, leaf-row-reads.Learnt, put-reads.Asked, put-reads.Learnt, paren-below t, paren.Post, array-below t, array.Post, dict-below t, dict.Post)
 
 atom-enum-known-begin : (t : ℕ) → atom-lts.Need-enum-known-begin (atom-calls t) (atom-at t) atom.Post
 atom-enum-known-begin t c = search needs
@@ -302,25 +299,25 @@ atom-leaf-row-requires : (t : ℕ) → atom-lts.Need-leaf-row-requires (atom-cal
 atom-leaf-row-requires t c κs = search needs
 
 atom-put-requires : (t : ℕ) → atom-lts.Need-put-requires (atom-calls t) (atom-at t) atom.Post
-atom-put-requires t c κs = (c .before .before .before .before .before .before .before .before .pre .1) .lent
+atom-put-requires t c κs = (c .before .before .before .before .before .before .before .pre .1 .0) .lent
 
 atom-enum-known-begin-2 : (t : ℕ) → atom-lts.Need-enum-known-begin-2 (atom-calls t) (atom-at t) atom.Post
 atom-enum-known-begin-2 t c = search needs
 
 atom-paren-requires : (t : ℕ) → atom-lts.Need-paren-requires (atom-calls t) (atom-at t) atom.Post
-atom-paren-requires t c κs = let k = ready-at (c .before .before .before .before .before .before .before .pre .1) (paren-on (c .before .before .before .before .before .before .before .pre .1 .stands) (c .before .before .before .before .atom-of .ensures) (c .before .before .begin2 .given .1) .stands) in search needs
+atom-paren-requires t c κs = let k = ready-at (c .before .before .before .before .before .before .pre .1 .0) (paren-on (c .before .before .before .before .before .before .pre .1 .0 .stands) (c .before .before .before .before .before .before .pre .1 .1) (c .before .before .begin2 .given .1) .stands) in search needs
 
 atom-enum-known-begin-3 : (t : ℕ) → atom-lts.Need-enum-known-begin-3 (atom-calls t) (atom-at t) atom.Post
 atom-enum-known-begin-3 t c = search needs
 
 atom-array-requires : (t : ℕ) → atom-lts.Need-array-requires (atom-calls t) (atom-at t) atom.Post
-atom-array-requires t c κs = let k = ready-at (c .before .before .before .before .before .before .before .pre .1) (bracket-on (c .before .before .before .before .before .before .before .pre .1 .stands) (c .before .before .before .before .atom-of .ensures) (c .before .before .begin3 .given .1) .stands) in search needs
+atom-array-requires t c κs = let k = ready-at (c .before .before .before .before .before .before .pre .1 .0) (bracket-on (c .before .before .before .before .before .before .pre .1 .0 .stands) (c .before .before .before .before .before .before .pre .1 .1) (c .before .before .begin3 .given .1) .stands) in search needs
 
 atom-enum-known-begin-4 : (t : ℕ) → atom-lts.Need-enum-known-begin-4 (atom-calls t) (atom-at t) atom.Post
 atom-enum-known-begin-4 t c = search needs
 
 atom-dict-requires : (t : ℕ) → atom-lts.Need-dict-requires (atom-calls t) (atom-at t) atom.Post
-atom-dict-requires t c κs = let k = ready-at (c .before .before .before .before .before .before .before .pre .1) (brace-on (c .before .before .before .before .before .before .before .pre .1 .stands) (c .before .before .before .before .atom-of .ensures) (c .before .before .begin4 .given .1) .stands) in search needs
+atom-dict-requires t c κs = let k = ready-at (c .before .before .before .before .before .before .pre .1 .0) (brace-on (c .before .before .before .before .before .before .pre .1 .0 .stands) (c .before .before .before .before .before .before .pre .1 .1) (c .before .before .begin4 .given .1) .stands) in search needs
 
 atom-enum-told : (t : ℕ) → atom-lts.Need-enum-told (atom-calls t) (atom-at t) atom.Post
 atom-enum-told t c = search needs
@@ -332,31 +329,36 @@ atom-same-length : (t : ℕ) → atom-lts.Need-same-length (atom-calls t) (atom-
 atom-same-length t c = search needs
 
 atom-returns : (t : ℕ) → atom-lts.Need-returns (atom-calls t) (atom-at t) atom.Post
-atom-returns t c = record { does = by-atom (c .before .before .before .before .before .before .before .before .before .before .before .pre .1 .stands) (c .before .before .before .before .before .before .before .before .atom-of .ensures) (c .before .before .before .before .before .before .begin .given .1) (by-make (rowed (c .before .before .before .before .leaf-row .ensures) (c .before .before .put .ensures))); onward = later (leaf-on (c .before .before .before .before .before .before .before .before .before .before .before .pre .1 .stands) (c .before .before .before .before .before .before .before .before .atom-of .ensures) (c .before .before .before .before .before .before .begin .given .1)) (put-on (c .before .before .put .ensures) (leaf-on (c .before .before .before .before .before .before .before .before .before .before .before .pre .1 .stands) (c .before .before .before .before .before .before .before .before .atom-of .ensures) (c .before .before .before .before .before .before .begin .given .1) .stands)) }
+unfolding closureP
+atom-returns t c = record { does = by-atom (c .before .before .before .before .before .pre .1 .0 .stands) (c .before .before .before .before .before .pre .1 .1) (c .before .enum-told .given .1) (stops (too-deep (c .if1 .taken))); onward = refused }
 
 atom-same-length-2 : (t : ℕ) → atom-lts.Need-same-length-2 (atom-calls t) (atom-at t) atom.Post
 atom-same-length-2 t c = search needs
 
 atom-returns-2 : (t : ℕ) → atom-lts.Need-returns-2 (atom-calls t) (atom-at t) atom.Post
-atom-returns-2 t c = record { does = by-atom (c .before .before .before .before .before .before .before .before .before .before .pre .1 .stands) (c .before .before .before .before .before .before .before .atom-of .ensures) (c .before .before .before .before .before .begin2 .given .1) (c .before .before .paren .ensures .does); onward = later (paren-on (c .before .before .before .before .before .before .before .before .before .before .pre .1 .stands) (c .before .before .before .before .before .before .before .atom-of .ensures) (c .before .before .before .before .before .begin2 .given .1)) (c .before .before .paren .ensures .onward) }
+atom-returns-2 t c = leaf-wrote (c .before .before .before .before .before .before .before .before .before .before .args .comps) (c .before .before .before .before .before .before .before .before .before .before .args .left) (c .before .before .before .before .before .before .before .before .before .before .pre .1 .0 .stands) (c .before .before .before .before .before .before .before .before .before .before .pre .1 .1) (c .before .before .before .before .before .before .begin .given .1) (c .before .before .before .before .leaf-row .ensures) (c .before .before .put .ensures)
 
 atom-same-length-3 : (t : ℕ) → atom-lts.Need-same-length-3 (atom-calls t) (atom-at t) atom.Post
 atom-same-length-3 t c = search needs
 
 atom-returns-3 : (t : ℕ) → atom-lts.Need-returns-3 (atom-calls t) (atom-at t) atom.Post
-atom-returns-3 t c = record { does = by-atom (c .before .before .before .before .before .before .before .before .before .before .pre .1 .stands) (c .before .before .before .before .before .before .before .atom-of .ensures) (c .before .before .before .before .before .begin3 .given .1) (c .before .before .array .ensures .does); onward = later (bracket-on (c .before .before .before .before .before .before .before .before .before .before .pre .1 .stands) (c .before .before .before .before .before .before .before .atom-of .ensures) (c .before .before .before .before .before .begin3 .given .1)) (c .before .before .array .ensures .onward) }
+atom-returns-3 t c = record { does = by-atom (c .before .before .before .before .before .before .before .before .before .pre .1 .0 .stands) (c .before .before .before .before .before .before .before .before .before .pre .1 .1) (c .before .before .before .before .before .begin2 .given .1) (c .before .before .paren .ensures .does); onward = later (paren-on (c .before .before .before .before .before .before .before .before .before .pre .1 .0 .stands) (c .before .before .before .before .before .before .before .before .before .pre .1 .1) (c .before .before .before .before .before .begin2 .given .1)) (c .before .before .paren .ensures .onward) }
 
 atom-same-length-4 : (t : ℕ) → atom-lts.Need-same-length-4 (atom-calls t) (atom-at t) atom.Post
 atom-same-length-4 t c = search needs
 
 atom-returns-4 : (t : ℕ) → atom-lts.Need-returns-4 (atom-calls t) (atom-at t) atom.Post
-atom-returns-4 t c = record { does = by-atom (c .before .before .before .before .before .before .before .before .before .before .pre .1 .stands) (c .before .before .before .before .before .before .before .atom-of .ensures) (c .before .before .before .before .before .begin4 .given .1) (c .before .before .dict .ensures .does); onward = later (brace-on (c .before .before .before .before .before .before .before .before .before .before .pre .1 .stands) (c .before .before .before .before .before .before .before .atom-of .ensures) (c .before .before .before .before .before .begin4 .given .1)) (c .before .before .dict .ensures .onward) }
+atom-returns-4 t c = record { does = by-atom (c .before .before .before .before .before .before .before .before .before .pre .1 .0 .stands) (c .before .before .before .before .before .before .before .before .before .pre .1 .1) (c .before .before .before .before .before .begin3 .given .1) (c .before .before .array .ensures .does); onward = later (bracket-on (c .before .before .before .before .before .before .before .before .before .pre .1 .0 .stands) (c .before .before .before .before .before .before .before .before .before .pre .1 .1) (c .before .before .before .before .before .begin3 .given .1)) (c .before .before .array .ensures .onward) }
 
 atom-returns-5 : (t : ℕ) → atom-lts.Need-returns-5 (atom-calls t) (atom-at t) atom.Post
-atom-returns-5 t c = record { does = by-atom (c .before .before .before .before .before .pre .1 .stands) (c .before .before .atom-of .ensures) (c .enum-told .given .1) by-stop; onward = refused }
+atom-returns-5 t c = record { does = by-atom (c .before .before .before .before .before .before .before .before .before .pre .1 .0 .stands) (c .before .before .before .before .before .before .before .before .before .pre .1 .1) (c .before .before .before .before .before .begin4 .given .1) (c .before .before .dict .ensures .does); onward = later (brace-on (c .before .before .before .before .before .before .before .before .before .pre .1 .0 .stands) (c .before .before .before .before .before .before .before .before .before .pre .1 .1) (c .before .before .before .before .before .begin4 .given .1)) (c .before .before .dict .ensures .onward) }
 
 atom-returns-6 : (t : ℕ) → atom-lts.Need-returns-6 (atom-calls t) (atom-at t) atom.Post
-atom-returns-6 t c = record { does = by-atom (c .before .before .before .before .before .before .pre .1 .stands) (c .before .before .before .atom-of .ensures) (c .before .begin5 .given .1) by-stop; onward = refused }
+unfolding closureP grammar
+atom-returns-6 t c = record { does = by-atom (c .before .before .before .before .before .pre .1 .0 .stands) (c .before .before .before .before .before .pre .1 .1) (c .before .enum-told .given .1) (stops (enter (c .if1 .left) by-stop)); onward = refused }
+
+atom-returns-7 : (t : ℕ) → atom-lts.Need-returns-7 (atom-calls t) (atom-at t) atom.Post
+atom-returns-7 t c = record { does = by-atom (c .before .before .before .before .before .pre .1 .0 .stands) (c .before .before .before .before .before .pre .1 .1) (c .before .begin5 .given .1) by-stop; onward = refused }
 
 abbrev call-calls : ℕ → call-lts.Claims
 call-calls t = (list-below t, list.Post, row-reads.Asked, row-reads.Learnt, put-reads.Asked, put-reads.Learnt)
@@ -1065,7 +1067,13 @@ unfolding parenP
 paren-returns-3 t c = record { does = then (told (c .before .before .before .before .before .inner .given .1) (c .before .before .before .before .before .before .before .before .before .expr .ensures .does)) (taken (c .before .before .before .need .ensures) (c .before .shut2 .given .1) by-done); onward = record { goes = reached-on (moved (c .before .before .before .before .before .before .before .before .before .expr .ensures .onward) (c .before .before .before .before .before .inner .given .1)) (taken-on (41 ∷ []) ((moved (c .before .before .before .before .before .before .before .before .before .expr .ensures .onward) (c .before .before .before .before .before .inner .given .1)) .stands) (c .before .before .before .need .ensures) (c .before .shut2 .given .1)) } }
 
 abbrev postfix-calls : ℕ → postfix-lts.Claims
-postfix-calls t = (atom-below t, atom.Post, postfixes-below t, postfixes.Post)
+postfix-calls t = (atom-of-reads.Asked, atom-of-reads.Learnt, atom-below t, atom.Post, postfixes-below t, postfixes.Post, leaf-row-reads.Asked, leaf-row-reads.Learnt, put-reads.Asked, put-reads.Learnt, postfix-of-reads.Asked, postfix-of-reads.Learnt)
+
+postfix-atom-of-requires : (t : ℕ) → postfix-lts.Need-atom-of-requires (postfix-calls t) (postfix-at t) postfix.Post
+postfix-atom-of-requires t c κs = ((c .before .before .pre .1 .stands), (c .before .before .pre .1) .short)
+
+postfix-enum-known-begin : (t : ℕ) → postfix-lts.Need-enum-known-begin (postfix-calls t) (postfix-at t) postfix.Post
+postfix-enum-known-begin t c = search needs
 
 postfix-atom-requires : (t : ℕ) → postfix-lts.Need-atom-requires (postfix-calls t) (postfix-at t) postfix.Post
 postfix-atom-requires t c κs = search needs
@@ -1084,7 +1092,7 @@ unfolding postfixP
 postfix-returns t c = record { does = halts (c .enum-told .given .1) (c .before .before .before .before .atom .ensures .does); onward = off (c .enum-told .given .1) }
 
 postfix-postfixes-requires : (t : ℕ) → postfix-lts.Need-postfixes-requires (postfix-calls t) (postfix-at t) postfix.Post
-postfix-postfixes-requires t c κs = let k = (ready-on (c .before .before .before .before .before .before .atom .last .1 .0) (c .before .before .before .before .before .before .before .before .before .before .pre .1) (c .before .before .before .before .before .before .atom .kept .1 .0) (moved (c .before .before .before .before .before .before .atom .ensures .onward) (c .before .before .base .given .1) .stands)) in search needs
+postfix-postfixes-requires t c κs = let k = (ready-on (c .before .before .before .before .before .before .atom .last .1 .0) (c .before .before .before .before .before .before .before .before .before .before .before .before .pre .1) (c .before .before .before .before .before .before .atom .kept .1 .0) (moved (c .before .before .before .before .before .before .atom .ensures .onward) (c .before .before .base .given .1) .stands)) in search needs
 
 postfix-same-length-2 : (t : ℕ) → postfix-lts.Need-same-length-2 (postfix-calls t) (postfix-at t) postfix.Post
 postfix-same-length-2 t c = search needs
@@ -1092,6 +1100,62 @@ postfix-same-length-2 t c = search needs
 postfix-returns-2 : (t : ℕ) → postfix-lts.Need-returns-2 (postfix-calls t) (postfix-at t) postfix.Post
 unfolding postfixP
 postfix-returns-2 t c = record { does = then (told (c .before .before .before .before .before .base .given .1) (c .before .before .before .before .before .before .before .before .before .atom .ensures .does)) (c .before .before .postfixes .ensures .does); onward = later (moved (c .before .before .before .before .before .before .before .before .before .atom .ensures .onward) (c .before .before .before .before .before .base .given .1)) (c .before .before .postfixes .ensures .onward) }
+
+postfix-leaf-row-requires : (t : ℕ) → postfix-lts.Need-leaf-row-requires (postfix-calls t) (postfix-at t) postfix.Post
+postfix-leaf-row-requires t c κs = search needs
+
+postfix-put-requires : (t : ℕ) → postfix-lts.Need-put-requires (postfix-calls t) (postfix-at t) postfix.Post
+postfix-put-requires t c κs = (c .before .before .before .before .before .before .before .before .pre .1) .lent
+
+postfix-enum-known-leaf : (t : ℕ) → postfix-lts.Need-enum-known-leaf (postfix-calls t) (postfix-at t) postfix.Post
+postfix-enum-known-leaf t c = search needs
+
+postfix-enum-told-2 : (t : ℕ) → postfix-lts.Need-enum-told-2 (postfix-calls t) (postfix-at t) postfix.Post
+postfix-enum-told-2 t c = search needs
+
+postfix-same-length-3 : (t : ℕ) → postfix-lts.Need-same-length-3 (postfix-calls t) (postfix-at t) postfix.Post
+postfix-same-length-3 t c = search needs
+
+postfix-returns-3 : (t : ℕ) → postfix-lts.Need-returns-3 (postfix-calls t) (postfix-at t) postfix.Post
+unfolding postfixP
+postfix-returns-3 t c =
+    let w = leaf-wrote (c .before .before .before .before .before .before .before .before .before .before .before .before .before .args .comps) (c .before .before .before .before .before .before .before .before .before .before .before .before .before .args .left) (c .before .before .before .before .before .before .before .before .before .before .before .before .before .pre .1 .stands) (c .before .before .before .before .before .before .before .before .before .before .atom-of .ensures) (c .before .before .before .before .before .before .before .before .begin .given .1) (c .before .before .before .before .before .before .leaf-row .ensures) (c .before .before .before .before .put .ensures) in
+    record { does = halts (c .enum-told2 .given .1) (w .does); onward = off (c .enum-told2 .given .1) }
+
+postfix-postfix-of-requires : (t : ℕ) → postfix-lts.Need-postfix-of-requires (postfix-calls t) (postfix-at t) postfix.Post
+postfix-postfix-of-requires t c κs =
+    let w = leaf-wrote (c .before .before .before .before .before .before .before .before .before .before .before .before .before .before .args .comps) (c .before .before .before .before .before .before .before .before .before .before .before .before .before .before .args .left) (c .before .before .before .before .before .before .before .before .before .before .before .before .before .before .pre .1 .stands) (c .before .before .before .before .before .before .before .before .before .before .before .atom-of .ensures) (c .before .before .before .before .before .before .before .before .before .begin .given .1) (c .before .before .before .before .before .before .before .leaf-row .ensures) (c .before .before .before .before .before .put .ensures) in
+    let g = moved (w .onward) (c .before .leaf .given .1) in
+    (g .stands, (c .before .before .before .before .before .before .before .before .before .before .before .before .before .before .pre .1) .short)
+
+postfix-enum-known-more : (t : ℕ) → postfix-lts.Need-enum-known-more (postfix-calls t) (postfix-at t) postfix.Post
+postfix-enum-known-more t c = search needs
+
+postfix-postfixes-requires-2 : (t : ℕ) → postfix-lts.Need-postfixes-requires-2 (postfix-calls t) (postfix-at t) postfix.Post
+postfix-postfixes-requires-2 t c κs =
+    let w = leaf-wrote (c .before .before .before .before .before .before .before .before .before .before .before .before .before .before .before .before .before .args .comps) (c .before .before .before .before .before .before .before .before .before .before .before .before .before .before .before .before .before .args .left) (c .before .before .before .before .before .before .before .before .before .before .before .before .before .before .before .before .before .pre .1 .stands) (c .before .before .before .before .before .before .before .before .before .before .before .before .before .before .atom-of .ensures) (c .before .before .before .before .before .before .before .before .before .before .before .before .begin .given .1) (c .before .before .before .before .before .before .before .before .before .before .leaf-row .ensures) (c .before .before .before .before .before .before .before .before .put .ensures) in
+    let g = moved (w .onward) (c .before .before .before .before .leaf .given .1) in
+    let k = ready-on (c .before .before .before .before .before .before .before .before .put .last .0) (c .before .before .before .before .before .before .before .before .before .before .before .before .before .before .before .before .before .pre .1) (c .before .before .before .before .before .before .before .before .put .kept .0) (g .stands) in (let z = c .before .before .before .before .before .before .before .before .before .before .before .before .before .before .before .before .before .pre .0 in omega arith, k)
+
+postfix-same-length-4 : (t : ℕ) → postfix-lts.Need-same-length-4 (postfix-calls t) (postfix-at t) postfix.Post
+postfix-same-length-4 t c = search needs
+
+postfix-returns-4 : (t : ℕ) → postfix-lts.Need-returns-4 (postfix-calls t) (postfix-at t) postfix.Post
+unfolding postfixP
+postfix-returns-4 t c =
+    let w = leaf-wrote (c .before .before .before .before .before .before .before .before .before .before .before .before .before .before .before .before .before .before .before .before .args .comps) (c .before .before .before .before .before .before .before .before .before .before .before .before .before .before .before .before .before .before .before .before .args .left) (c .before .before .before .before .before .before .before .before .before .before .before .before .before .before .before .before .before .before .before .before .pre .1 .stands) (c .before .before .before .before .before .before .before .before .before .before .before .before .before .before .before .before .before .atom-of .ensures) (c .before .before .before .before .before .before .before .before .before .before .before .before .before .before .before .begin .given .1) (c .before .before .before .before .before .before .before .before .before .before .before .before .before .leaf-row .ensures) (c .before .before .before .before .before .before .before .before .before .before .before .put .ensures) in
+    let g = moved (w .onward) (c .before .before .before .before .before .before .before .leaf .given .1) in
+    record { does = then (told (c .before .before .before .before .before .before .before .leaf .given .1) (w .does)) (c .before .before .postfixes2 .ensures .does); onward = later g (c .before .before .postfixes2 .ensures .onward) }
+
+postfix-same-length-5 : (t : ℕ) → postfix-lts.Need-same-length-5 (postfix-calls t) (postfix-at t) postfix.Post
+postfix-same-length-5 t c = search needs
+
+postfix-returns-5 : (t : ℕ) → postfix-lts.Need-returns-5 (postfix-calls t) (postfix-at t) postfix.Post
+unfolding postfixP
+postfix-returns-5 t c =
+    let w = leaf-wrote (c .before .before .before .before .before .before .before .before .before .before .before .before .before .before .before .before .before .before .args .comps) (c .before .before .before .before .before .before .before .before .before .before .before .before .before .before .before .before .before .before .args .left) (c .before .before .before .before .before .before .before .before .before .before .before .before .before .before .before .before .before .before .pre .1 .stands) (c .before .before .before .before .before .before .before .before .before .before .before .before .before .before .before .atom-of .ensures) (c .before .before .before .before .before .before .before .before .before .before .before .before .before .begin .given .1) (c .before .before .before .before .before .before .before .before .before .before .before .leaf-row .ensures) (c .before .before .before .before .before .before .before .before .before .put .ensures) in
+    let g = moved (w .onward) (c .before .before .before .before .before .leaf .given .1) in
+    record { does = then (told (c .before .before .before .before .before .leaf .given .1) (w .does)) (by-postfix (length (c .before .before .before .before .before .before .before .before .before .before .before .before .before .before .before .before .before .before .args .text .now)) (c .before .before .before .before .before .leaf .given .0 .1 .0) (g .stands) (c .before .before .before .postfix-of .ensures) (c .before .more .given .1) by-done); onward = record { goes = reached-on g (rest-on (g .stands) (c .before .before .before .postfix-of .ensures) (c .before .more .given .1)) } }
 
 abbrev postfixes-Inv-loop : postfixes-lts.InvT-loop
 postfixes-Inv-loop text pool₀ cap comps left node₀ here₀ tally₀ pool node here tally = Postfixing text pool₀ cap comps left node₀ here₀ tally₀ pool node here tally
@@ -1287,7 +1351,6 @@ pub +array+atom+call+chain+choice+dict+element+expr+extend+index+list+pair+paren
     (λ t. atom-lts.spec (atom-calls t)
     (atom-at t)
     atom.Post
-    (atom-atom-of-requires t)
     (atom-enum-known-begin t)
     (atom-leaf-row-requires t)
     (atom-put-requires t)
@@ -1298,17 +1361,18 @@ pub +array+atom+call+chain+choice+dict+element+expr+extend+index+list+pair+paren
     (atom-enum-known-begin-4 t)
     (atom-dict-requires t)
     (atom-enum-told t)
+    (atom-returns t)
     (atom-enum-known-begin-5 t)
     (atom-same-length t)
-    (atom-returns t)
-    (atom-same-length-2 t)
     (atom-returns-2 t)
-    (atom-same-length-3 t)
+    (atom-same-length-2 t)
     (atom-returns-3 t)
-    (atom-same-length-4 t)
+    (atom-same-length-3 t)
     (atom-returns-4 t)
+    (atom-same-length-4 t)
     (atom-returns-5 t)
-    (atom-returns-6 t))
+    (atom-returns-6 t)
+    (atom-returns-7 t))
     (λ t. call-lts.spec (call-calls t)
     (call-at t)
     call.Post
@@ -1561,6 +1625,8 @@ pub +array+atom+call+chain+choice+dict+element+expr+extend+index+list+pair+paren
     (postfix-calls t)
     (postfix-at t)
     postfix.Post
+    (postfix-atom-of-requires t)
+    (postfix-enum-known-begin t)
     (postfix-atom-requires t)
     (postfix-enum-known-base t)
     (postfix-enum-told t)
@@ -1568,7 +1634,20 @@ pub +array+atom+call+chain+choice+dict+element+expr+extend+index+list+pair+paren
     (postfix-returns t)
     (postfix-postfixes-requires t)
     (postfix-same-length-2 t)
-    (postfix-returns-2 t))
+    (postfix-returns-2 t)
+    (postfix-leaf-row-requires t)
+    (postfix-put-requires t)
+    (postfix-enum-known-leaf t)
+    (postfix-enum-told-2 t)
+    (postfix-same-length-3 t)
+    (postfix-returns-3 t)
+    (postfix-postfix-of-requires t)
+    (postfix-enum-known-more t)
+    (postfix-postfixes-requires-2 t)
+    (postfix-same-length-4 t)
+    (postfix-returns-4 t)
+    (postfix-same-length-5 t)
+    (postfix-returns-5 t))
     (λ t. postfixes-lts.spec (postfixes-calls t)
     (postfixes-at t)
     postfixes.Post

@@ -1,16 +1,17 @@
 -- What the readers of atoms show on the way. Assumes nothing.
 use mathlib.Core.Path.{_≡_, refl, sym, ap, subst, subst⁻¹, _∙_}
-use mathlib.Core.Bool.{true, false}
+use mathlib.Core.Bool.{Bool, true, false}
+use mathlib.Core.Logic.{_⊎_, inl, inr}
 use Prim.Native.Nat.{ℕ, _+_, _≤_, _<_}
 use native.Mathlib.Omega.{arith}
-use lib.Dec.{T}
+use lib.Dec.{T, leb}
 use lib.IntN.{ℤ, pos, negsuc, natAbs}
 use lib.ListN.{length}
 use lib.Signed.{nonNeg}
 use mir.Syntax.{w64}
 use mir.Val.{Fits, ofZ, toZ}
 use mir.ValLaws.{toZ-pos}
-use borrow.Author.Tests.{eq-eqb, ne-eqb, le-leb, lt-leb}
+use borrow.Author.Tests.{eq-eqb, ne-eqb, le-leb, lt-leb, leb-true, leb-false}
 use Rattle.characters.specs.declared.place.Place.{Place}
 use Rattle.characters.specs.declared.refusal.Refusal.{Refusal}
 use Rattle.characters.specs.declared.refusal.Refusal.the-variants.{ReservedWord, UnknownAtom}
@@ -139,30 +140,22 @@ host-by s h {p} z f g = g ∙ ap (spanAtom kinds.Host (p .offset)) f ∙ ap (λ 
 
 -- ---- the first byte
 
-no-digit-low : (b : ℕ) → b < 48 → isDigit b ≡ false
+pub no-digit-low : (b : ℕ) → b < 48 → isDigit b ≡ false
 no-digit-low b h = rw (lt-leb 48 b h) refl
 
-no-digit-high : (b : ℕ) → 57 < b → isDigit b ≡ false
+pub no-digit-high : (b : ℕ) → 57 < b → isDigit b ≡ false
 no-digit-high b h = rw (le-leb 48 b (omega arith), lt-leb b 57 h) refl
 
--- a byte between those of the digits and letters
-pub data Between (b : ℕ) : Type 0 where
-  low : b < 48 → Between b
-  middle : 58 ≤ b → b < 65 → Between b
-  upper : 91 ≤ b → b < 97 → Between b
-  high : 123 ≤ b → Between b
-
-between-digit : (b : ℕ) → Between b → isDigit b ≡ false
-between-digit b (low h) = no-digit-low b h
-between-digit b (middle h k) = no-digit-high b (omega arith)
-between-digit b (upper h k) = no-digit-high b (omega arith)
-between-digit b (high h) = no-digit-high b (omega arith)
-
-between-letter : (b : ℕ) → Between b → (b ≡ 95 → ⊥) → isLetter b ≡ false
-between-letter b (low h) n = rw (lt-leb 97 b (omega arith), lt-leb 65 b (omega arith), ne-eqb b 95 n) refl
-between-letter b (middle h k) n = rw (lt-leb 97 b (omega arith), lt-leb 65 b k, ne-eqb b 95 n) refl
-between-letter b (upper h k) n = rw (lt-leb 97 b k, le-leb 65 b (omega arith), lt-leb b 90 (omega arith), ne-eqb b 95 n) refl
-between-letter b (high h) n = rw (le-leb 97 b (omega arith), lt-leb b 122 (omega arith), le-leb 65 b (omega arith), lt-leb b 90 (omega arith), ne-eqb b 95 n) refl
+-- letters stand above the digits
+letter-high : (b : ℕ) → isLetter b ≡ true → 57 < b
+letter-high b e = go (leb 58 b) refl
+  where
+    go : (t : Bool) → leb 58 b ≡ t → 57 < b
+    go true z = let l : 58 ≤ b = leb-true 58 b z in omega arith
+    go false z =
+        let l : b < 58 = leb-false 58 b z in
+        let n : isLetter b ≡ false = rw (lt-leb 97 b (omega arith), lt-leb 65 b (omega arith), ne-eqb b 95 (λ y. omega arith)) refl in
+        absurd (let y : _≡_ {A = ℕ} 0 1 = cc in omega arith)
 
 module _ (s : Text) (h : Place) {b : ℕ} {r : Atom} (e : ByteOf s (h .offset) b) where
   first : r ≡ atomBy s b h → r ≡ atomOf s h
@@ -172,20 +165,12 @@ module _ (s : Text) (h : Place) {b : ℕ} {r : Atom} (e : ByteOf s (h .offset) b
   pub from-digit : 48 ≤ b → b < 58 → r ≡ numberAtom h (number s h) → r ≡ atomOf s h
   from-digit l m g = first (g ∙ sym (atom-digit s b h (rw (le-leb 48 b l, le-leb b 57 (omega arith)) refl)))
 
-  from-letter : 57 < b → isLetter b ≡ true → r ≡ nameAtom s (name s h) → r ≡ atomOf s h
-  from-letter l m g = first (g ∙ sym (atom-letter s b h (no-digit-high b l) m))
+  pub from-letter : {t : Bool} → t ≡ isLetter b → t ≡ true → r ≡ nameAtom s (name s h) → r ≡ atomOf s h
+  from-letter f z g = let m = sym f ∙ z in first (g ∙ sym (atom-letter s b h (no-digit-high b (letter-high b m)) m))
 
-  pub from-lower : 97 ≤ b → b < 123 → r ≡ nameAtom s (name s h) → r ≡ atomOf s h
-  from-lower l m g = from-letter (omega arith) (rw (le-leb 97 b l, le-leb b 122 (omega arith)) refl) g
+  pub from-quote : (b ≡ 34) ⊎ (b ≡ 39) → r ≡ stringAtom s h → r ≡ atomOf s h
+  from-quote (inl z) g = first (g ∙ sym (atom-quote s b h (ap isDigit z) (ap isLetter z) (ap isQuote z)))
+  from-quote (inr z) g = first (g ∙ sym (atom-quote s b h (ap isDigit z) (ap isLetter z) (ap isQuote z)))
 
-  pub from-upper : 65 ≤ b → b < 91 → r ≡ nameAtom s (name s h) → r ≡ atomOf s h
-  from-upper l m g = from-letter (omega arith) (rw (lt-leb 97 b (omega arith), le-leb 65 b l, le-leb b 90 (omega arith)) refl) g
-
-  pub from-under : b ≡ 95 → r ≡ nameAtom s (name s h) → r ≡ atomOf s h
-  from-under z g = from-letter (omega arith) (ap isLetter z) g
-
-  pub from-quote : (k : ℕ) → b ≡ k → isDigit k ≡ false → isLetter k ≡ false → isQuote k ≡ true → r ≡ stringAtom s h → r ≡ atomOf s h
-  from-quote k z d l q g = first (g ∙ sym (atom-quote s b h (ap isDigit z ∙ d) (ap isLetter z ∙ l) (ap isQuote z ∙ q)))
-
-  pub from-sign : Between b → (b ≡ 95 → ⊥) → (b ≡ 34 → ⊥) → (b ≡ 39 → ⊥) → r ≡ signAtom s b h → r ≡ atomOf s h
-  from-sign w n x y g = first (g ∙ sym (atom-sign s b h (between-digit b w) (between-letter b w n) (rw (ne-eqb b 34 x, ne-eqb b 39 y) refl)))
+  pub from-sign : {t : Bool} → t ≡ isLetter b → t ≡ false → isDigit b ≡ false → ((b ≡ 34) ⊎ (b ≡ 39) → ⊥) → r ≡ signAtom s b h → r ≡ atomOf s h
+  from-sign f z d n g = first (g ∙ sym (atom-sign s b h d (sym f ∙ z) (rw (ne-eqb b 34 (λ x. n (inl x)), ne-eqb b 39 (λ x. n (inr x))) refl)))

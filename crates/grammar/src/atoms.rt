@@ -1,5 +1,6 @@
 // Atoms: one record each, or the sign that opens a longer one.
 use crate::leaves::Atom;
+use characters::names::is_letter;
 use characters::names::name;
 use characters::names::word;
 use characters::place::Place;
@@ -199,13 +200,12 @@ pub fn atom_of(text: &[u8], at: Place) -> Atom
     ensures { λ r. ⌜ r ≡ atomOf (now (text .entry)) at ⌝ }
 {
     let b = byte(text, at.offset);
+    if is_letter(b) {
+        return name_atom(text, at);
+    }
     match b {
-        97..=122 => name_atom(text, at),
+        34 | 39 => string_atom(text, at),
         48..=57 => number_atom(text, at),
-        65..=90 => name_atom(text, at),
-        95 => name_atom(text, at),
-        34 => string_atom(text, at),
-        39 => string_atom(text, at),
         _ => sign_atom(text, b, at),
     }
 }

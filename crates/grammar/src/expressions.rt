@@ -15,6 +15,7 @@ use crate::leaves::follow_of;
 use crate::leaves::key_at;
 use crate::leaves::postfix_of;
 use crate::leaves::prefix_of;
+use crate::leaves::rests;
 use crate::operators::link_of;
 use crate::operators::strength_of;
 use crate::rows::item;
@@ -23,7 +24,9 @@ use crate::rows::listed;
 use crate::rows::pair_row;
 use crate::rows::row;
 use crate::signs::signed;
+use characters::blanks::spaces;
 use characters::place::Place;
+use characters::place::byte;
 use characters::refusal::Refusal;
 use characters::tokens::Look;
 use characters::tokens::Must;
@@ -144,12 +147,15 @@ fn postfix(
     let Out::Read { at: q, node, tally } = leaf else {
         return leaf;
     };
-    let more = postfix_of(text, q);
-    let Postfix::Rest { here } = more else {
+    let n = spaces(text, q.offset);
+    let near = q.on(n);
+    let b = byte(text, near.offset);
+    let c = byte(text, near.offset + 1);
+    if !rests(b, c) {
         return postfixes(text, pool, cap, comps, left, node, q, tally);
-    };
+    }
     Out::Read {
-        at: here,
+        at: near,
         node,
         tally,
     }

@@ -5,9 +5,11 @@ use mathlib.Core.Bool.{false}
 use Prim.Native.Nat.{suc, _+_, _*_, _-_}
 use native.Mathlib.Omega.{arith}
 use lib.ListN.{length}
-use borrow.Author.Tests.{le-leb, lt-leb}
+use borrow.Author.Tests.{le-leb, lt-leb, not-false}
 use Rattle.characters.specs.declared.place.Place.{Place}
-use Rattle.characters.specs.PlaceLaws.{reached-on, advanced-on, advanced-reached}
+use Rattle.characters.specs.PlaceLaws.{reached-on, advanced-on, advanced-reached, room}
+use Rattle.characters.specs.BlankLaws.{spaced-stands}
+use Rattle.grammar.proofs.Leafing.{rest-near}
 use Rattle.reading.specs.Process.{bind}
 use Rattle.reading.specs.Laws.Does.{by-done, by-stop, by-make, then, stops, told, yes-way, no-way, found, missing, halted, taken, failed, too-deep, enter}
 use Rattle.grammar.specs.Leaves.{keyAt}
@@ -74,6 +76,9 @@ use Rattle.grammar.proofs.expressions.+array+atom+call+chain+choice+dic
 use Rattle.grammar.proofs.expressions.value.Reads as value
 use Rattle.grammar.proofs.expressions.value.Kinds as value-kinds
 use Rattle.grammar.proofs.expressions.+array+atom+call+chain+choice+dict+element+expr+extend+index+list+pair+paren+postfix+postfixes+prefix+value.Lts-value as value-lts
+use Rattle.characters.proofs.blanks.spaces.Reads as spaces-reads
+use Rattle.characters.proofs.place.Place.on.Reads as on-reads
+use Rattle.characters.proofs.place.byte.Reads as byte-reads
 use Rattle.characters.proofs.tokens.need.Reads as need-reads
 use Rattle.characters.proofs.tokens.sign.Reads as sign-reads
 use Rattle.grammar.proofs.atoms.atom_of.Reads as atom-of-reads
@@ -87,6 +92,7 @@ use Rattle.grammar.proofs.leaves.follow_of.Reads as follow-of-reads
 use Rattle.grammar.proofs.leaves.key_at.Reads as key-at-reads
 use Rattle.grammar.proofs.leaves.postfix_of.Reads as postfix-of-reads
 use Rattle.grammar.proofs.leaves.prefix_of.Reads as prefix-of-reads
+use Rattle.grammar.proofs.leaves.rests.Reads as rests-reads
 use Rattle.grammar.proofs.operators.link_of.Reads as link-of-reads
 use Rattle.grammar.proofs.operators.strength_of.Reads as strength-of-reads
 use Rattle.grammar.proofs.rows.item.Reads as item-reads
@@ -1067,7 +1073,7 @@ unfolding parenP
 paren-returns-3 t c = record { does = then (told (c .before .before .before .before .before .inner .given .1) (c .before .before .before .before .before .before .before .before .before .expr .ensures .does)) (taken (c .before .before .before .need .ensures) (c .before .shut2 .given .1) by-done); onward = record { goes = reached-on (moved (c .before .before .before .before .before .before .before .before .before .expr .ensures .onward) (c .before .before .before .before .before .inner .given .1)) (taken-on (41 ∷ []) ((moved (c .before .before .before .before .before .before .before .before .before .expr .ensures .onward) (c .before .before .before .before .before .inner .given .1)) .stands) (c .before .before .before .need .ensures) (c .before .shut2 .given .1)) } }
 
 abbrev postfix-calls : ℕ → postfix-lts.Claims
-postfix-calls t = (atom-of-reads.Asked, atom-of-reads.Learnt, atom-below t, atom.Post, postfixes-below t, postfixes.Post, leaf-row-reads.Asked, leaf-row-reads.Learnt, put-reads.Asked, put-reads.Learnt, postfix-of-reads.Asked, postfix-of-reads.Learnt)
+postfix-calls t = (atom-of-reads.Asked, atom-of-reads.Learnt, atom-below t, atom.Post, postfixes-below t, postfixes.Post, leaf-row-reads.Asked, leaf-row-reads.Learnt, put-reads.Asked, put-reads.Learnt, spaces-reads.Asked, spaces-reads.Learnt, on-reads.Asked, on-reads.Learnt, byte-reads.Asked, byte-reads.Learnt, rests-reads.Asked, rests-reads.Learnt)
 
 postfix-atom-of-requires : (t : ℕ) → postfix-lts.Need-atom-of-requires (postfix-calls t) (postfix-at t) postfix.Post
 postfix-atom-of-requires t c κs = ((c .before .before .pre .1 .stands), (c .before .before .pre .1) .short)
@@ -1122,20 +1128,29 @@ postfix-returns-3 t c =
     let w = leaf-wrote (c .before .before .before .before .before .before .before .before .before .before .before .before .before .args .comps) (c .before .before .before .before .before .before .before .before .before .before .before .before .before .args .left) (c .before .before .before .before .before .before .before .before .before .before .before .before .before .pre .1 .stands) (c .before .before .before .before .before .before .before .before .before .before .atom-of .ensures) (c .before .before .before .before .before .before .before .before .begin .given .1) (c .before .before .before .before .before .before .leaf-row .ensures) (c .before .before .before .before .put .ensures) in
     record { does = halts (c .enum-told2 .given .1) (w .does); onward = off (c .enum-told2 .given .1) }
 
-postfix-postfix-of-requires : (t : ℕ) → postfix-lts.Need-postfix-of-requires (postfix-calls t) (postfix-at t) postfix.Post
-postfix-postfix-of-requires t c κs =
-    let w = leaf-wrote (c .before .before .before .before .before .before .before .before .before .before .before .before .before .before .args .comps) (c .before .before .before .before .before .before .before .before .before .before .before .before .before .before .args .left) (c .before .before .before .before .before .before .before .before .before .before .before .before .before .before .pre .1 .stands) (c .before .before .before .before .before .before .before .before .before .before .before .atom-of .ensures) (c .before .before .before .before .before .before .before .before .before .begin .given .1) (c .before .before .before .before .before .before .before .leaf-row .ensures) (c .before .before .before .before .before .put .ensures) in
-    let g = moved (w .onward) (c .before .leaf .given .1) in
-    (g .stands, (c .before .before .before .before .before .before .before .before .before .before .before .before .before .before .pre .1) .short)
+postfix-spaces-requires : (t : ℕ) → postfix-lts.Need-spaces-requires (postfix-calls t) (postfix-at t) postfix.Post
+postfix-spaces-requires t c κs = (c .before .before .before .before .before .before .before .before .before .before .before .before .before .before .pre .1 .stands) .short
 
-postfix-enum-known-more : (t : ℕ) → postfix-lts.Need-enum-known-more (postfix-calls t) (postfix-at t) postfix.Post
-postfix-enum-known-more t c = search needs
+postfix-on-requires : (t : ℕ) → postfix-lts.Need-on-requires (postfix-calls t) (postfix-at t) postfix.Post
+postfix-on-requires t c κs = let g = moved ((leaf-wrote (c .before .before .before .before .before .before .before .before .before .before .before .before .before .before .before .args .comps) (c .before .before .before .before .before .before .before .before .before .before .before .before .before .before .before .args .left) (c .before .before .before .before .before .before .before .before .before .before .before .before .before .before .before .pre .1 .stands) (c .before .before .before .before .before .before .before .before .before .before .before .before .atom-of .ensures) (c .before .before .before .before .before .before .before .before .before .before .begin .given .1) (c .before .before .before .before .before .before .before .before .leaf-row .ensures) (c .before .before .before .before .before .before .put .ensures)) .onward) (c .before .before .leaf .given .1) in let h = room (spaced-stands (g .stands) (c .spaces .ensures) refl) in (omega arith, omega arith)
+
+postfix-byte-requires : (t : ℕ) → postfix-lts.Need-byte-requires (postfix-calls t) (postfix-at t) postfix.Post
+postfix-byte-requires t c κs = search needs
+
+postfix-add-byte : (t : ℕ) → postfix-lts.Need-add-byte (postfix-calls t) (postfix-at t) postfix.Post
+postfix-add-byte t c = let g = moved ((leaf-wrote (c .before .before .before .before .before .before .before .before .before .before .before .before .before .before .before .before .before .before .args .comps) (c .before .before .before .before .before .before .before .before .before .before .before .before .before .before .before .before .before .before .args .left) (c .before .before .before .before .before .before .before .before .before .before .before .before .before .before .before .before .before .before .pre .1 .stands) (c .before .before .before .before .before .before .before .before .before .before .before .before .before .before .before .atom-of .ensures) (c .before .before .before .before .before .before .before .before .before .before .before .before .before .begin .given .1) (c .before .before .before .before .before .before .before .before .before .before .before .leaf-row .ensures) (c .before .before .before .before .before .before .before .before .before .put .ensures)) .onward) (c .before .before .before .before .before .leaf .given .1) in let h = room (spaced-stands (g .stands) (c .before .before .before .spaces .ensures) (c .before .before .on .ensures)) in omega arith
+
+postfix-byte-requires-2 : (t : ℕ) → postfix-lts.Need-byte-requires-2 (postfix-calls t) (postfix-at t) postfix.Post
+postfix-byte-requires-2 t c κs = search needs
+
+postfix-rests-requires : (t : ℕ) → postfix-lts.Need-rests-requires (postfix-calls t) (postfix-at t) postfix.Post
+postfix-rests-requires t c κs = search needs
 
 postfix-postfixes-requires-2 : (t : ℕ) → postfix-lts.Need-postfixes-requires-2 (postfix-calls t) (postfix-at t) postfix.Post
 postfix-postfixes-requires-2 t c κs =
-    let w = leaf-wrote (c .before .before .before .before .before .before .before .before .before .before .before .before .before .before .before .before .before .args .comps) (c .before .before .before .before .before .before .before .before .before .before .before .before .before .before .before .before .before .args .left) (c .before .before .before .before .before .before .before .before .before .before .before .before .before .before .before .before .before .pre .1 .stands) (c .before .before .before .before .before .before .before .before .before .before .before .before .before .before .atom-of .ensures) (c .before .before .before .before .before .before .before .before .before .before .before .before .begin .given .1) (c .before .before .before .before .before .before .before .before .before .before .leaf-row .ensures) (c .before .before .before .before .before .before .before .before .put .ensures) in
-    let g = moved (w .onward) (c .before .before .before .before .leaf .given .1) in
-    let k = ready-on (c .before .before .before .before .before .before .before .before .put .last .0) (c .before .before .before .before .before .before .before .before .before .before .before .before .before .before .before .before .before .pre .1) (c .before .before .before .before .before .before .before .before .put .kept .0) (g .stands) in (let z = c .before .before .before .before .before .before .before .before .before .before .before .before .before .before .before .before .before .pre .0 in omega arith, k)
+    let w = leaf-wrote (c .before .before .before .before .before .before .before .before .before .before .before .before .before .before .before .before .before .before .before .before .before .before .args .comps) (c .before .before .before .before .before .before .before .before .before .before .before .before .before .before .before .before .before .before .before .before .before .before .args .left) (c .before .before .before .before .before .before .before .before .before .before .before .before .before .before .before .before .before .before .before .before .before .before .pre .1 .stands) (c .before .before .before .before .before .before .before .before .before .before .before .before .before .before .before .before .before .before .before .atom-of .ensures) (c .before .before .before .before .before .before .before .before .before .before .before .before .before .before .before .before .before .begin .given .1) (c .before .before .before .before .before .before .before .before .before .before .before .before .before .before .before .leaf-row .ensures) (c .before .before .before .before .before .before .before .before .before .before .before .before .before .put .ensures) in
+    let g = moved (w .onward) (c .before .before .before .before .before .before .before .before .before .leaf .given .1) in
+    let k = ready-on (c .before .before .before .before .before .before .before .before .before .before .before .before .before .put .last .0) (c .before .before .before .before .before .before .before .before .before .before .before .before .before .before .before .before .before .before .before .before .before .before .pre .1) (c .before .before .before .before .before .before .before .before .before .before .before .before .before .put .kept .0) (g .stands) in (let z = c .before .before .before .before .before .before .before .before .before .before .before .before .before .before .before .before .before .before .before .before .before .before .pre .0 in omega arith, k)
 
 postfix-same-length-4 : (t : ℕ) → postfix-lts.Need-same-length-4 (postfix-calls t) (postfix-at t) postfix.Post
 postfix-same-length-4 t c = search needs
@@ -1143,9 +1158,9 @@ postfix-same-length-4 t c = search needs
 postfix-returns-4 : (t : ℕ) → postfix-lts.Need-returns-4 (postfix-calls t) (postfix-at t) postfix.Post
 unfolding postfixP
 postfix-returns-4 t c =
-    let w = leaf-wrote (c .before .before .before .before .before .before .before .before .before .before .before .before .before .before .before .before .before .before .before .before .args .comps) (c .before .before .before .before .before .before .before .before .before .before .before .before .before .before .before .before .before .before .before .before .args .left) (c .before .before .before .before .before .before .before .before .before .before .before .before .before .before .before .before .before .before .before .before .pre .1 .stands) (c .before .before .before .before .before .before .before .before .before .before .before .before .before .before .before .before .before .atom-of .ensures) (c .before .before .before .before .before .before .before .before .before .before .before .before .before .before .before .begin .given .1) (c .before .before .before .before .before .before .before .before .before .before .before .before .before .leaf-row .ensures) (c .before .before .before .before .before .before .before .before .before .before .before .put .ensures) in
-    let g = moved (w .onward) (c .before .before .before .before .before .before .before .leaf .given .1) in
-    record { does = then (told (c .before .before .before .before .before .before .before .leaf .given .1) (w .does)) (c .before .before .postfixes2 .ensures .does); onward = later g (c .before .before .postfixes2 .ensures .onward) }
+    let w = leaf-wrote (c .before .before .before .before .before .before .before .before .before .before .before .before .before .before .before .before .before .before .before .before .before .before .before .before .before .args .comps) (c .before .before .before .before .before .before .before .before .before .before .before .before .before .before .before .before .before .before .before .before .before .before .before .before .before .args .left) (c .before .before .before .before .before .before .before .before .before .before .before .before .before .before .before .before .before .before .before .before .before .before .before .before .before .pre .1 .stands) (c .before .before .before .before .before .before .before .before .before .before .before .before .before .before .before .before .before .before .before .before .before .before .atom-of .ensures) (c .before .before .before .before .before .before .before .before .before .before .before .before .before .before .before .before .before .before .before .before .begin .given .1) (c .before .before .before .before .before .before .before .before .before .before .before .before .before .before .before .before .before .before .leaf-row .ensures) (c .before .before .before .before .before .before .before .before .before .before .before .before .before .before .before .before .put .ensures) in
+    let g = moved (w .onward) (c .before .before .before .before .before .before .before .before .before .before .before .before .leaf .given .1) in
+    record { does = then (told (c .before .before .before .before .before .before .before .before .before .before .before .before .leaf .given .1) (w .does)) (c .before .before .postfixes2 .ensures .does); onward = later g (c .before .before .postfixes2 .ensures .onward) }
 
 postfix-same-length-5 : (t : ℕ) → postfix-lts.Need-same-length-5 (postfix-calls t) (postfix-at t) postfix.Post
 postfix-same-length-5 t c = search needs
@@ -1153,9 +1168,10 @@ postfix-same-length-5 t c = search needs
 postfix-returns-5 : (t : ℕ) → postfix-lts.Need-returns-5 (postfix-calls t) (postfix-at t) postfix.Post
 unfolding postfixP
 postfix-returns-5 t c =
-    let w = leaf-wrote (c .before .before .before .before .before .before .before .before .before .before .before .before .before .before .before .before .before .before .args .comps) (c .before .before .before .before .before .before .before .before .before .before .before .before .before .before .before .before .before .before .args .left) (c .before .before .before .before .before .before .before .before .before .before .before .before .before .before .before .before .before .before .pre .1 .stands) (c .before .before .before .before .before .before .before .before .before .before .before .before .before .before .before .atom-of .ensures) (c .before .before .before .before .before .before .before .before .before .before .before .before .before .begin .given .1) (c .before .before .before .before .before .before .before .before .before .before .before .leaf-row .ensures) (c .before .before .before .before .before .before .before .before .before .put .ensures) in
-    let g = moved (w .onward) (c .before .before .before .before .before .leaf .given .1) in
-    record { does = then (told (c .before .before .before .before .before .leaf .given .1) (w .does)) (by-postfix (length (c .before .before .before .before .before .before .before .before .before .before .before .before .before .before .before .before .before .before .args .text .now)) (c .before .before .before .before .before .leaf .given .0 .1 .0) (g .stands) (c .before .before .before .postfix-of .ensures) (c .before .more .given .1) by-done); onward = record { goes = reached-on g (rest-on (g .stands) (c .before .before .before .postfix-of .ensures) (c .before .more .given .1)) } }
+    let w = leaf-wrote (c .before .before .before .before .before .before .before .before .before .before .before .before .before .before .before .before .before .before .before .before .before .args .comps) (c .before .before .before .before .before .before .before .before .before .before .before .before .before .before .before .before .before .before .before .before .before .args .left) (c .before .before .before .before .before .before .before .before .before .before .before .before .before .before .before .before .before .before .before .before .before .pre .1 .stands) (c .before .before .before .before .before .before .before .before .before .before .before .before .before .before .before .before .before .before .atom-of .ensures) (c .before .before .before .before .before .before .before .before .before .before .before .before .before .before .before .before .begin .given .1) (c .before .before .before .before .before .before .before .before .before .before .before .before .before .before .leaf-row .ensures) (c .before .before .before .before .before .before .before .before .before .before .before .before .put .ensures) in
+    let g = moved (w .onward) (c .before .before .before .before .before .before .before .before .leaf .given .1) in
+    let r = rest-near (g .stands) (c .before .before .before .before .before .before .spaces .ensures) (c .before .before .before .before .before .on .ensures) (c .before .before .before .before .byte .ensures) (c .before .before .byte2 .ensures) (c .before .rests .ensures) (not-false _ (c .if1 .left)) in
+    record { does = then (told (c .before .before .before .before .before .before .before .before .leaf .given .1) (w .does)) (by-postfix (length (c .before .before .before .before .before .before .before .before .before .before .before .before .before .before .before .before .before .before .before .before .before .args .text .now)) (c .before .before .before .before .before .before .before .before .leaf .given .0 .1 .0) (g .stands) r refl by-done); onward = record { goes = reached-on g (rest-on (g .stands) r refl) } }
 
 abbrev postfixes-Inv-loop : postfixes-lts.InvT-loop
 postfixes-Inv-loop text pool₀ cap comps left node₀ here₀ tally₀ pool node here tally = Postfixing text pool₀ cap comps left node₀ here₀ tally₀ pool node here tally
@@ -1641,8 +1657,12 @@ pub +array+atom+call+chain+choice+dict+element+expr+extend+index+list+pair+paren
     (postfix-enum-told-2 t)
     (postfix-same-length-3 t)
     (postfix-returns-3 t)
-    (postfix-postfix-of-requires t)
-    (postfix-enum-known-more t)
+    (postfix-spaces-requires t)
+    (postfix-on-requires t)
+    (postfix-byte-requires t)
+    (postfix-add-byte t)
+    (postfix-byte-requires-2 t)
+    (postfix-rests-requires t)
     (postfix-postfixes-requires-2 t)
     (postfix-same-length-4 t)
     (postfix-returns-4 t)

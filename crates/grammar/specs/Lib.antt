@@ -2,7 +2,13 @@ pub mod Operators
 pub mod Leaves
 pub mod LeafLaws
 pub mod LinkLaws
+pub mod Heads
 pub mod Expressions
+pub mod Functions
+pub mod Statements
+pub mod Classes
+pub mod Grammar
+pub mod Units
 pub mod AtomLaws
 pub mod Chains
 pub mod ChainLaws
@@ -13,3 +19,4 @@ pub mod Leads
 pub mod Suits
 pub mod Contracts
 pub mod Examples
+pub mod UnitExamples

@@ -2,6 +2,7 @@
 pub mod atoms;
 pub mod chain;
 pub mod expressions;
+pub mod heads;
 pub mod keys;
 pub mod leaves;
 pub mod operators;

@@ -122,7 +122,7 @@ module _ {s : Text} {p : Place} (h : Place) (v : Stands s h) (z : p ≡ onBy 1 h
 -- ---- `instanceof`
 
 -- a word does not stand where another byte does
-spells-first : (s : Text) (o x : ℕ) (w : Text) → (byteAt s o ≡ x → ⊥) → spells (x ∷ w) (drop o s) ≡ false
+pub spells-first : (s : Text) (o x : ℕ) (w : Text) → (byteAt s o ≡ x → ⊥) → spells (x ∷ w) (drop o s) ≡ false
 unfolding spells
 spells-first s o x w n = go (drop o s) (front s o)
   where

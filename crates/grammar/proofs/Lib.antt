@@ -4,5 +4,6 @@ mod Leafing
 mod Walking
 mod Atomic
 mod Links
+mod Heading
 mod Chains
 mod Rounds

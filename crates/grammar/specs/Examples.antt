@@ -91,7 +91,7 @@ answers =
     ∷ answerOf (read (ascii "f(1);") 1)
     ∷ []
 
-as-document-01-says : answers
+values-as-01-says : answers
     ≡ says 0 1 20 1 0
     ∷ says 14 1 21 0 0
     ∷ says 14 1 19 0 0
@@ -102,7 +102,7 @@ as-document-01-says : answers
     ∷ says 5 1 3 1 0
     ∷ []
 unfolding answers
-as-document-01-says = refl
+values-as-01-says = refl
 
 -- `-(5)`: the literal, and the negated one at its position
 negated : recordsOf (read (ascii "-(5);") 64 .events)

@@ -3,6 +3,7 @@ pub mod Leaves
 pub mod LeafLaws
 pub mod LinkLaws
 pub mod Heads
+pub mod HeadLaws
 pub mod Expressions
 pub mod Functions
 pub mod Statements

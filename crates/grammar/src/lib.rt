@@ -1,6 +1,8 @@
-// The grammar of Plush: what stands at a place, and the leaves of its rules.
+// The grammar of Plush: what stands at a place, and the readers of its rules.
+pub mod assignments;
 pub mod atoms;
 pub mod chain;
+pub mod declarations;
 pub mod expressions;
 pub mod heads;
 pub mod keys;

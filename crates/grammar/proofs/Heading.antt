@@ -31,7 +31,7 @@ use Rattle.grammar.specs.declared.heads.Assignment.{Assignment}
 use Rattle.grammar.specs.declared.heads.Assignment.the-variants.{Sign, Absent}
 use Rattle.grammar.specs.declared.heads.LetHead.the-variants as lets
 use Rattle.grammar.specs.Operators.{assignments, anyOf}
-use Rattle.grammar.specs.Heads.{nameOf, wordHead, nameHead, headBy, stepBy, stepOf, assigning, equalsBy, assignIn, assignOf, endBy, endOf, letTo, itemBy}
+use Rattle.grammar.specs.Heads.{nameOf, wordHead, nameHead, stepBy, stepOf, assigning, equalsBy, assignIn, assignOf, endBy, endOf, letTo, itemBy}
 use Rattle.grammar.specs.HeadLaws.{NameOn, name-of-on, assignRest}
 use Rattle.grammar.proofs.Leafing.{spells-first}
 use Rattle.grammar.proofs.Links.{NoneOf}

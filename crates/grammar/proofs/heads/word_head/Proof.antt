@@ -2,7 +2,6 @@
 use Prim.Native.Nat.{ℕ}
 use Rattle.grammar.specs.Heads.{wordHead}
 use Rattle.grammar.proofs.Heading.{keyed, word-rest}
-use borrow.Author.Needs.{needs}
 use Rattle.grammar.proofs.heads.word_head.Statement.{statement}
 use Rattle.grammar.proofs.heads.word_head.Tie as tie
 use Rattle.grammar.proofs.heads.word_head.Reads as reads

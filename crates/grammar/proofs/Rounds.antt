@@ -21,7 +21,7 @@ use Rattle.reading.specs.Laws.Does.{by-done, by-make}
 use Rattle.grammar.specs.declared.leaves.Suffix.{Suffix}
 use Rattle.grammar.specs.Operators.{loosest}
 use Rattle.grammar.specs.LeafLaws.{KeyOn, key-on}
-use Rattle.grammar.specs.KeyLaws.{keys-of}
+use Rattle.grammar.specs.KeyLaws.{keys-of, listed-own}
 use Rattle.grammar.specs.Contracts.{Ready, Onward, Wrote, Finished, WellListed, Paired, suffixAt, SuffixReady}
 use Rattle.reading.specs.Process.{Process, Grammar, done}
 use Rattle.reading.specs.Says.{Makes, Does}
@@ -37,7 +37,7 @@ use Rattle.grammar.specs.Expressions.{Routine, Rule, turns, grammar, lis
 use Rattle.characters.specs.declared.refusal.Refusal.{Refusal}
 use Rattle.grammar.specs.declared.chain.Reduced.{Reduced}
 use Rattle.grammar.specs.Chains.{pendingOf, Rising, Reduces}
-use Rattle.grammar.specs.Keys.{Listed, keysOf}
+use Rattle.grammar.specs.Keys.{byKey, Listed}
 use Rattle.grammar.proofs.Steps.{later, put-on}
 use Rattle.grammar.proofs.Leads.{leaf-on}
 
@@ -125,7 +125,7 @@ pub record Dicting (s pool₀ : List ℕ) (cap comps left : ℕ) (from at : Plac
   pub same : length pool ≡ length pool₀
   pub turn : Turning s at here
   pub keys : List Span
-  pub listed : Listed pool tally last keys
+  pub listed : Listed byKey pool tally last keys
   pub rest : (r : Out) (B : List ℕ) → Does layout (grammar s) cap comps left tally (dictP (suc (turn .fuel)) s from keys last here) r pool B
       → Does layout (grammar s) cap comps left t (dictP (turns s) s from [] 0 at) r pool₀ B
 
@@ -187,19 +187,19 @@ suffix-wrote {s} {cap} {comps} {left} {t} {x} {y} {r} {A} {B} base e w = subst�
 pub key-taken : {s : Text} {p h q : Place} {l : Must} → Stands s p → l ≡ keyAt s p → l ≡ Taken h q → (h ≡ p) × Advanced s p q
 key-taken {s} {p} {h} {q} {l} v e f = subst (KeyOn s p) (sym e ∙ f) (key-on s p v)
 
-pub well-listed : {pool : List ℕ} {t : Tally} {last : ℕ} {ks : List Span} → Listed pool t last ks → WellListed pool t last
-well-listed {pool} {t} {last} {ks} h = record { listed = subst⁻¹ (λ (x : List Span). Listed pool t last x) (keys-of (h .chained)) h }
+pub well-listed : {pool : List ℕ} {t : Tally} {last : ℕ} {ks : List Span} → Listed byKey pool t last ks → WellListed pool t last
+well-listed h = record { listed = listed-own h }
 
-pub pair-by : {s : Text} {cap comps left : ℕ} {from at : Place} {last : ℕ} {t : Tally} {r : Out} {A B : List ℕ} {ks : List Span} → Listed A t last ks → Paired s cap comps left from last at t r A B
+pub pair-by : {s : Text} {cap comps left : ℕ} {from at : Place} {last : ℕ} {t : Tally} {r : Out} {A B : List ℕ} {ks : List Span} → Listed byKey A t last ks → Paired s cap comps left from last at t r A B
     → Does layout (grammar s) cap comps left t (pairP s from ks last at) r A B
 pair-by {s} {cap} {comps} {left} {from} {at} {last} {t} {r} {A} {B} {ks} h d = subst (λ (x : List Span). Does layout (grammar s) cap comps left t (pairP s from x last at) r A B) (keys-of (h .chained)) (d .does)
 
 pub pair-listed : {s : Text} {cap comps left : ℕ} {from at : Place} {last : ℕ} {t : Tally} {r : Out} {A B : List ℕ} {ks : List Span} {p : Place} {n : Node} {u : Tally}
-    → Listed A t last ks → Paired s cap comps left from last at t r A B → r ≡ Read p n u → Listed B u (n .number) (withKey (keyAt s at) ks)
-pair-listed {s} {at = at} {A = A} {B = B} {ks = ks} {n = n} {u = u} h d e = subst (λ (x : List Span). Listed B u (n .number) (withKey (keyAt s at) x)) (keys-of (h .chained)) (d .listed e)
+    → Listed byKey A t last ks → Paired s cap comps left from last at t r A B → r ≡ Read p n u → Listed byKey B u (n .number) (withKey (keyAt s at) ks)
+pair-listed {s} {at = at} {A = A} {B = B} {ks = ks} {n = n} {u = u} h d e = subst (λ (x : List Span). Listed byKey B u (n .number) (withKey (keyAt s at) x)) (keys-of (h .chained)) (d .listed e)
 
-pub listed-with : {s : Text} {at k q : Place} {l : Must} {pool : List ℕ} {t : Tally} {last : ℕ} {ks : List Span} → Stands s at → l ≡ keyAt s at → l ≡ Taken k q → Listed pool t last (keySpan k q ∷ ks) → Listed pool t last (withKey (keyAt s at) ks)
-listed-with {s} {at} {k} {q} {l} {pool} {t} {last} {ks} v e f h = subst (λ (x : Must). Listed pool t last (withKey x ks)) (sym f ∙ e) h
+pub listed-with : {s : Text} {at k q : Place} {l : Must} {pool : List ℕ} {t : Tally} {last : ℕ} {ks : List Span} → Stands s at → l ≡ keyAt s at → l ≡ Taken k q → Listed byKey pool t last (keySpan k q ∷ ks) → Listed byKey pool t last (withKey (keyAt s at) ks)
+listed-with {s} {at} {k} {q} {l} {pool} {t} {last} {ks} v e f h = subst (λ (x : Must). Listed byKey pool t last (withKey x ks)) (sym f ∙ e) h
 
 -- ---- a reduction, by the strength of an operator
 

@@ -21,7 +21,7 @@ use Rattle.grammar.specs.Operators.{loosest}
 use Rattle.grammar.specs.Leaves.{keyAt}
 use Rattle.grammar.specs.Expressions.{Routine, Rule, grammar, reduceP, pairP, withKey}
 use Rattle.grammar.specs.Chains.{pendingOf}
-use Rattle.grammar.specs.Keys.{keysOf, Listed}
+use Rattle.grammar.specs.Keys.{byKey, keysOf, Listed}
 
 -- what a reader is called with: a text of at most 65,535 bytes, a pool lent with room for `cap` records, a place in the text
 pub record Ready (s pool : List ℕ) (cap : ℕ) (at : Place) : Type 0 where
@@ -64,13 +64,13 @@ pub record Finished (cap : ℕ) (t : Tally) (at : Place) (c : Chain) (right : No
 
 -- the items from `last` back are those of a dictionary, made by now
 pub record WellListed (pool : List ℕ) (t : Tally) (last : ℕ) : Type 0 where
-  pub listed : Listed pool t last (keysOf pool last)
+  pub listed : Listed byKey pool t last (keysOf byKey pool last)
 
 -- the contract of a dictionary's pair: its rule, and the items that stand in the pool then
 pub record Paired (s : Text) (cap comps left : ℕ) (from : Place) (last : ℕ) (at : Place) (t : Tally) (r : Out) (before later : List ℕ) : Type 0 where
-  pub does : Does layout (grammar s) cap comps left t (pairP s from (keysOf before last) last at) r before later
+  pub does : Does layout (grammar s) cap comps left t (pairP s from (keysOf byKey before last) last at) r before later
   pub onward : Onward s at r
-  pub listed : {p : Place} {n : Node} {u : Tally} → r ≡ Read p n u → Listed later u (n .number) (withKey (keyAt s at) (keysOf before last))
+  pub listed : {p : Place} {n : Node} {u : Tally} → r ≡ Read p n u → Listed byKey later u (n .number) (withKey (keyAt s at) (keysOf byKey before last))
 
 -- the place after a suffix's sign, from where it is read on
 abbrev pub suffixAt : Suffix → Place

@@ -13,14 +13,13 @@ use Rattle.characters.specs.declared.refusal.Refusal.{Refusal}
 use Rattle.characters.specs.declared.refusal.Refusal.the-variants.{PoolFull, Duplicate}
 use Rattle.characters.specs.Text.{Text}
 use Rattle.literals.specs.declared.strings.Span.{Span}
-use Rattle.literals.specs.Strings.{sameKey}
 use Rattle.reading.specs.declared.node.Node.{Node}
 use Rattle.reading.specs.declared.tally.Tally.{Tally}
 use Rattle.reading.specs.declared.answer.Out.{Out}
 use Rattle.reading.specs.declared.answer.Out.the-variants.{Read, Refused}
 use Rattle.reading.specs.Events.{Rec, Event, compared, End, Done, Stop, Crossed, Spent, Outcome, ended, cons, recordsOf, withComparison, step, steps}
 use Rattle.reading.specs.Limits.{Limits, limited, Verdict, goes, over, judge, judged}
-use Rattle.reading.specs.Process.{Process, Grammar, done, bind, plain, joined, after, under, run}
+use Rattle.reading.specs.Process.{Process, Grammar, done, stop, compare, test, bind, plain, joined, after, under, run}
 use Rattle.reading.specs.Answers.{Tells}
 use Rattle.reading.specs.Says.{laid, Says, Does, Makes}
 use Rattle.reading.specs.Laws.Counts.{tally-records}
@@ -33,8 +32,17 @@ use Rattle.records.specs.declared.row.RowAt.the-variants.{Here}
 use Rattle.records.specs.Kinds.{kindOf}
 use Rattle.records.specs.Rows.{width, recordOf, layout, Lent, rowBy, rowFrom, rowAt}
 use Rattle.records.specs.Laws.Rows.{laid-length, laid-before, rows-back, row-in}
+use Rattle.records.specs.Words.{spanWord}
 use Rattle.grammar.specs.Expressions.{Routine, Rule, pairRow, newKey}
+use Rattle.grammar.specs.Functions.{newName, paramRow}
 use Rattle.grammar.specs.Keys.{
+  Naming,
+  byKey,
+  byName,
+  held,
+  heldIn,
+  sameBy,
+  newBy,
   Packs,
   beforeAt,
   wordAt,
@@ -55,86 +63,104 @@ use Rattle.grammar.specs.Keys.{
 
 -- ---- what keeps a chain
 
+-- A row has eight words.
+held-in-row : (nm : Naming) → held nm < width
+held-in-row byKey = omega arith
+held-in-row byName = omega arith
+
 -- An item is its words.
-holds-same : {x y : List ℕ} {made item before : ℕ} {k : Span} → length y ≡ length x → ((i : ℕ) → i < made * width → getD y i 0 ≡ getD x i 0)
-    → item ≤ made → Holds x item before k → Holds y item before k
-holds-same {item = item} {before = before} l same h o =
+holds-same : {x y : List ℕ} {made item before : ℕ} {k : Span} {nm : Naming} → length y ≡ length x → ((i : ℕ) → i < made * width → getD y i 0 ≡ getD x i 0)
+    → item ≤ made → Holds nm x item before k → Holds nm y item before k
+holds-same {item = item} {before = before} {nm = nm} l same h o =
     let some : before < item = o .earlier in
     let room = o .inside in
+    let n = held-in-row nm in
     record {
       inside = omega arith;
-      word = same (item * width - width + 6) (omega arith) ∙ o .word;
+      word = same (item * width - width + held nm) (omega arith) ∙ o .word;
       link = same (item * width - width + 5) (omega arith) ∙ o .link;
       earlier = some;
       packs = o .packs;
     }
 
 -- Two pools that agree on the rows up to here have the same chains there.
-chained-same : {x y : List ℕ} {made item : ℕ} {ks : List Span} → length y ≡ length x → ((i : ℕ) → i < made * width → getD y i 0 ≡ getD x i 0)
-    → item ≤ made → Chained x item ks → Chained y item ks
+chained-same : {x y : List ℕ} {made item : ℕ} {ks : List Span} {nm : Naming} → length y ≡ length x → ((i : ℕ) → i < made * width → getD y i 0 ≡ getD x i 0)
+    → item ≤ made → Chained nm x item ks → Chained nm y item ks
 chained-same l same h none = none
 chained-same l same h (more o c) = let before = o .earlier in more (holds-same l same h o) (chained-same l same (omega arith) c)
 
 -- Laying records keeps the chains of those before.
-pub chained-laid : {pool : List ℕ} {made last : ℕ} {ks : List Span} (rs : List Rec) → last ≤ made → Chained pool last ks
-    → Chained (laid layout pool made rs) last ks
+pub chained-laid : {pool : List ℕ} {made last : ℕ} {ks : List Span} {nm : Naming} (rs : List Rec) → last ≤ made → Chained nm pool last ks
+    → Chained nm (laid layout pool made rs) last ks
 chained-laid {pool} {made} rs h c = chained-same (laid-length rs pool made) (laid-before rs pool made) h c
 
 -- And so does laying one.
-pub chained-layout : {pool : List ℕ} {made last : ℕ} {ks : List Span} (r : Rec) → last ≤ made → Chained pool last ks
-    → Chained (layout pool made r) last ks
+pub chained-layout : {pool : List ℕ} {made last : ℕ} {ks : List Span} {nm : Naming} (r : Rec) → last ≤ made → Chained nm pool last ks
+    → Chained nm (layout pool made r) last ks
 unfolding laid
 chained-layout r h c = chained-laid (r ∷ []) h c
 
-pub chained-says : {o : Outcome} {t : Tally} {r : Out} {before later : List ℕ} {last : ℕ} {ks : List Span} → Says layout o t r before later
-    → last ≤ t .records → Chained before last ks → Chained later last ks
-chained-says {o} {t} {last = last} {ks = ks} s h c =
-    subst (λ (p : List ℕ). Chained p last ks) (sym (s .pool)) (chained-laid (recordsOf (o .events)) h c)
+pub chained-says : {o : Outcome} {t : Tally} {r : Out} {before later : List ℕ} {last : ℕ} {ks : List Span} {nm : Naming} → Says layout o t r before later
+    → last ≤ t .records → Chained nm before last ks → Chained nm later last ks
+chained-says {o} {t} {last = last} {ks = ks} {nm = nm} s h c =
+    subst (λ (p : List ℕ). Chained nm p last ks) (sym (s .pool)) (chained-laid (recordsOf (o .events)) h c)
 
 -- So whatever a routine reads, the chains of the records before it stay.
-pub chained-does : {N : Type 0} {G : Grammar N} {cap comps left : ℕ} {t : Tally} {P : Process N} {r : Out} {before later : List ℕ} {last : ℕ} {ks : List Span}
-    → Does layout G cap comps left t P r before later → last ≤ t .records → Chained before last ks → Chained later last ks
+pub chained-does : {N : Type 0} {G : Grammar N} {cap comps left : ℕ} {t : Tally} {P : Process N} {r : Out} {before later : List ℕ} {last : ℕ} {ks : List Span} {nm : Naming}
+    → Does layout G cap comps left t P r before later → last ≤ t .records → Chained nm before last ks → Chained nm later last ks
 chained-does d h c = chained-says (d .says 0 0) h c
 
-pub chained-makes : {cap : ℕ} {t : Tally} {p : Place} {rec : Rec} {v : ℕ} {r : Out} {before later : List ℕ} {last : ℕ} {ks : List Span}
-    → Makes layout cap t p rec v r before later → last ≤ t .records → Chained before last ks → Chained later last ks
+pub chained-makes : {cap : ℕ} {t : Tally} {p : Place} {rec : Rec} {v : ℕ} {r : Out} {before later : List ℕ} {last : ℕ} {ks : List Span} {nm : Naming}
+    → Makes layout cap t p rec v r before later → last ≤ t .records → Chained nm before last ks → Chained nm later last ks
 chained-makes m h c = chained-says (m .says 0 0) h c
 
 -- ---- an item more
 
 -- The words of a row that is read back.
-row-words : (pool : List ℕ) (base : ℕ) (w : Row) → rowFrom pool base ≡ Here w → (getD pool (base + 5) 0 ≡ w .b) × (getD pool (base + 6) 0 ≡ w .c)
-row-words pool base w e =
-    go (kindOf (getD pool base 0)) _ (getD pool (base + 4) 0) (getD pool (base + 5) 0) (getD pool (base + 6) 0) (getD pool (base + 7) 0) e
+row-words : (nm : Naming) (pool : List ℕ) (base : ℕ) (w : Row) → rowFrom pool base ≡ Here w
+    → (getD pool (base + 5) 0 ≡ w .b) × (getD pool (base + held nm) 0 ≡ heldIn nm w)
+row-words nm pool base w e =
+    go nm (kindOf (getD pool base 0)) _ (getD pool (base + 4) 0) (getD pool (base + 5) 0) (getD pool (base + 6) 0) (getD pool (base + 7) 0) refl refl e
   where
-    go : (k : KindAt) (p : Place) (a b c d : ℕ) → rowBy k p a b c d ≡ Here w → (b ≡ w .b) × (c ≡ w .c)
-    go (Known k) p a b c d e =
+    go : (nm : Naming) (k : KindAt) (p : Place) (a b c d : ℕ) → getD pool (base + 4) 0 ≡ a → getD pool (base + 6) 0 ≡ c → rowBy k p a b c d ≡ Here w
+        → (b ≡ w .b) × (getD pool (base + held nm) 0 ≡ heldIn nm w)
+    go byKey (Known k) p a b c d x y e =
         let f : _≡_ {A = Row} (record { kind = k; position = p; a = a; b = b; c = c; d = d }) w = cc in
-        (ap (λ (w : Row). w .b) f, ap (λ (w : Row). w .c) f)
-    go Unknown p a b c d e = let z : _≡_ {A = ℕ} 0 1 = cc in absurd (omega arith)
+        (ap (λ (w : Row). w .b) f, y ∙ ap (λ (w : Row). w .c) f)
+    go byName (Known k) p a b c d x y e =
+        let f : _≡_ {A = Row} (record { kind = k; position = p; a = a; b = b; c = c; d = d }) w = cc in
+        (ap (λ (w : Row). w .b) f, x ∙ ap (λ (w : Row). w .a) f)
+    go nm Unknown p a b c d x y e = let z : _≡_ {A = ℕ} 0 1 = cc in absurd (omega arith)
 
 -- The item that was laid last.
-laid-words : (pool : List ℕ) (made : ℕ) (w : Row) → (made + 1) * width ≤ length pool
-    → (beforeAt (layout pool made (recordOf w)) (made + 1) ≡ w .b) × (wordAt (layout pool made (recordOf w)) (made + 1) ≡ w .c)
+laid-words : (nm : Naming) (pool : List ℕ) (made : ℕ) (w : Row) → (made + 1) * width ≤ length pool
+    → (beforeAt (layout pool made (recordOf w)) (made + 1) ≡ w .b)
+    × (wordAt (held nm) (layout pool made (recordOf w)) (made + 1) ≡ heldIn nm w)
 unfolding laid
-laid-words pool made w h =
+laid-words nm pool made w h =
     let p : List ℕ = layout pool made (recordOf w) in
     let l : length p ≡ length pool = laid-length (recordOf w ∷ []) pool made in
     let rows = rows-back (w ∷ []) pool made h in
     let e : rowAt p (made + 1) ≡ Here w = cc in
     let f : rowFrom p ((made + 1) * width - width) ≡ Here w = sym (row-in p (made + 1) (λ z. omega arith) (omega arith)) ∙ e in
-    row-words p ((made + 1) * width - width) w f
+    row-words nm p ((made + 1) * width - width) w f
+
+-- A row that names the item before it and holds this key.
+pub record Names (nm : Naming) (w : Row) (last : ℕ) (key : Span) : Type 0 where
+  pub before : w .b ≡ last
+  pub word : heldIn nm w ≡ spanWord (key .from) (key .to)
+  pub packs : Packs key
 
 -- Laying an item prolongs its chain.
-pub chained-more : {pool : List ℕ} {made last : ℕ} {key : Span} {ks : List Span} (value : ℕ) → (made + 1) * width ≤ length pool → last ≤ made
-    → Packs key → Chained pool last ks → Chained (layout pool made (recordOf (pairRow value last key))) (made + 1) (key ∷ ks)
+pub chained-more : {pool : List ℕ} {made last : ℕ} {key : Span} {ks : List Span} {nm : Naming} {w : Row} → Names nm w last key
+    → (made + 1) * width ≤ length pool → last ≤ made
+    → Chained nm pool last ks → Chained nm (layout pool made (recordOf w)) (made + 1) (key ∷ ks)
 unfolding laid
-chained-more {pool} {made} {last} {key} value room h k c =
-    let w : Row = pairRow value last key in
+chained-more {pool} {made} {last} {key} {nm = nm} {w = w} k room h c =
     let l : length (layout pool made (recordOf w)) ≡ length pool = laid-length (recordOf w ∷ []) pool made in
-    let e = laid-words pool made w room in
-    let o : Holds (layout pool made (recordOf w)) (made + 1) last key =
-    record { inside = omega arith; word = e .1; link = e .0; earlier = omega arith; packs = k }
+    let e = laid-words nm pool made w room in
+    let o : Holds nm (layout pool made (recordOf w)) (made + 1) last key =
+    record { inside = omega arith; word = e .1 ∙ k .word; link = e .0 ∙ k .before; earlier = omega arith; packs = k .packs }
     in
     more o (chained-layout (recordOf w) h c)
 
@@ -150,65 +176,65 @@ made-room {cap} {t} {p} {rec} {v} {before = before} m e = go (ltb (t .records) c
         absurd (refused-read (sym (makes-unique m w .0) ∙ e))
 
 -- What `put` leaves of an item, where there was room: the chain goes on from the record made.
-pub chained-put : {cap : ℕ} {t : Tally} {p : Place} {value v : ℕ} {r : Out} {before later : List ℕ} {last : ℕ} {key : Span} {ks : List Span} {q : Place} {n : Node} {u : Tally}
-    → Makes layout cap t p (recordOf (pairRow value last key)) v r before later → r ≡ Read q n u → Lent before cap → last ≤ t .records → Packs key
-    → Chained before last ks → Chained later (n .number) (key ∷ ks)
-chained-put {t = t} {value = value} {before = before} {key = key} {ks = ks} {n = n} m e lent h k c =
+pub chained-put : {cap : ℕ} {t : Tally} {p : Place} {v : ℕ} {r : Out} {before later : List ℕ} {last : ℕ} {key : Span} {ks : List Span} {q : Place} {n : Node} {u : Tally} {nm : Naming} {w : Row}
+    → Names nm w last key → Makes layout cap t p (recordOf w) v r before later → r ≡ Read q n u → Lent before cap → last ≤ t .records
+    → Chained nm before last ks → Chained nm later (n .number) (key ∷ ks)
+chained-put {t = t} {before = before} {key = key} {ks = ks} {n = n} k m e lent h c =
     let d = made m e in
     let room = lent .room in
     let fits = made-room m e in
     let number : n .number ≡ t .records + 1 = ap (λ (n : Node). n .number) (d .node) in
-    rw (d .pool, number) (chained-more value (omega arith) h k c)
+    rw (d .pool, number) (chained-more k (omega arith) h c)
 
 -- ---- the pool determines the keys
 
 -- A word that packs a span gives it back.
-entry-key : {pool : List ℕ} {item before : ℕ} {k : Span} → Holds pool item before k → entryOf pool item .key ≡ k
-entry-key {pool} {item} {k = k} o =
+entry-key : {pool : List ℕ} {item before : ℕ} {k : Span} {nm : Naming} → Holds nm pool item before k → entryOf nm pool item .key ≡ k
+entry-key {pool} {item} {k = k} {nm = nm} o =
     let a = o .packs .from in
     let b = o .packs .to in
-    let w : wordAt pool item ≡ k .from + 65536 * (k .to) = o .word in
-    let f : wordAt pool item % 65536 ≡ k .from = omega arith in
-    let g : wordAt pool item / 65536 ≡ k .to = omega arith in
+    let w : wordAt (held nm) pool item ≡ k .from + 65536 * (k .to) = o .word in
+    let f : wordAt (held nm) pool item % 65536 ≡ k .from = omega arith in
+    let g : wordAt (held nm) pool item / 65536 ≡ k .to = omega arith in
     λ i. record { from = f i; to = g i }
 
-keys-step : (f : ℕ) (pool : List ℕ) (item : ℕ) → 1 ≤ item → keysBy (suc f) pool item ≡ entryOf pool item .key ∷ keysBy f pool (beforeAt pool item)
-keys-step f pool zero h = absurd (omega arith)
-keys-step f pool (suc i) h = refl
+keys-step : (nm : Naming) (f : ℕ) (pool : List ℕ) (item : ℕ) → 1 ≤ item → keysBy nm (suc f) pool item ≡ entryOf nm pool item .key ∷ keysBy nm f pool (beforeAt pool item)
+keys-step nm f pool zero h = absurd (omega arith)
+keys-step nm f pool (suc i) h = refl
 
-keys-by : {pool : List ℕ} {last : ℕ} {ks : List Span} (f : ℕ) → last ≤ f → Chained pool last ks → keysBy f pool last ≡ ks
+keys-by : {pool : List ℕ} {last : ℕ} {ks : List Span} {nm : Naming} (f : ℕ) → last ≤ f → Chained nm pool last ks → keysBy nm f pool last ≡ ks
 keys-by zero h none = refl
 keys-by (suc f) h none = refl
 keys-by zero h (more o c) = let z = o .earlier in absurd (omega arith)
-keys-by {pool} {last} (suc f) h (more {before = before} {k = k} {ks = ks} o c) =
+keys-by {pool} {last} {nm = nm} (suc f) h (more {before = before} {k = k} {ks = ks} o c) =
     let z = o .earlier in
-    let e : entryOf pool last .key ≡ k = entry-key o in
-    let g : keysBy f pool (beforeAt pool last) ≡ ks = rw (o .link) (keys-by f (omega arith) c) in
-    keys-step f pool last (omega arith) ∙ (λ i. e i ∷ g i)
+    let e : entryOf nm pool last .key ≡ k = entry-key o in
+    let g : keysBy nm f pool (beforeAt pool last) ≡ ks = rw (o .link) (keys-by f (omega arith) c) in
+    keys-step nm f pool last (omega arith) ∙ (λ i. e i ∷ g i)
 
-pub keys-of : {pool : List ℕ} {last : ℕ} {ks : List Span} → Chained pool last ks → keysOf pool last ≡ ks
+pub keys-of : {pool : List ℕ} {last : ℕ} {ks : List Span} {nm : Naming} → Chained nm pool last ks → keysOf nm pool last ≡ ks
 unfolding keysOf
 keys-of {last = last} c = keys-by last (omega arith) c
 
 -- A chain can be walked.
-pub well-chained : {pool : List ℕ} {last : ℕ} {ks : List Span} → Chained pool last ks → WellChained pool last
-well-chained {pool} {last} c = record { chained = subst (λ (ks : List Span). Chained pool last ks) (sym (keys-of c)) c }
+pub well-chained : {pool : List ℕ} {last : ℕ} {ks : List Span} {nm : Naming} → Chained nm pool last ks → WellChained nm pool last
+well-chained {pool} {last} {nm = nm} c = record { chained = subst (λ (ks : List Span). Chained nm pool last ks) (sym (keys-of c)) c }
 
 -- One item of it: what its entry holds, and what is left.
-pub record Walked (pool : List ℕ) (item : ℕ) : Type 0 where
+pub record Walked (nm : Naming) (pool : List ℕ) (item : ℕ) : Type 0 where
   pub some : 1 ≤ item
   pub inside : item * width ≤ length pool
   pub earlier : beforeAt pool item < item
-  pub rest : WellChained pool (beforeAt pool item)
-  pub keys : keysOf pool item ≡ entryOf pool item .key ∷ keysOf pool (beforeAt pool item)
+  pub rest : WellChained nm pool (beforeAt pool item)
+  pub keys : keysOf nm pool item ≡ entryOf nm pool item .key ∷ keysOf nm pool (beforeAt pool item)
 
-walked-by : {pool : List ℕ} {item : ℕ} {ks : List Span} → (item ≡ 0 → ⊥) → Chained pool item ks → Walked pool item
+walked-by : {pool : List ℕ} {item : ℕ} {ks : List Span} {nm : Naming} → (item ≡ 0 → ⊥) → Chained nm pool item ks → Walked nm pool item
 walked-by z none = absurd (z refl)
-walked-by {pool} {item} {ks} z (more {before = before} o c) =
+walked-by {pool} {item} {ks} {nm} z (more {before = before} o c) =
     let h = o .earlier in
     let f : beforeAt pool item ≡ before = o .link in
     let e = entry-key o in
-    let g : keysOf pool (beforeAt pool item) ≡ keysOf pool before = ap (keysOf pool) f in
+    let g : keysOf nm pool (beforeAt pool item) ≡ keysOf nm pool before = ap (keysOf nm pool) f in
     record {
       some = omega arith;
       inside = o .inside;
@@ -217,7 +243,7 @@ walked-by {pool} {item} {ks} z (more {before = before} o c) =
       keys = keys-of (more o c) ∙ (λ i. sym e i ∷ sym (g ∙ keys-of c) i);
     }
 
-pub walked : {pool : List ℕ} {item : ℕ} → WellChained pool item → (item ≡ 0 → ⊥) → Walked pool item
+pub walked : {pool : List ℕ} {item : ℕ} {nm : Naming} → WellChained nm pool item → (item ≡ 0 → ⊥) → Walked nm pool item
 walked w z = walked-by z (w .chained)
 
 -- ---- how a rule goes on after a new key
@@ -231,13 +257,27 @@ joined-cons t (Stop k p) e es f = refl
 joined-cons t (Crossed w p) e es f = refl
 joined-cons t (Spent p) e es f = refl
 
+-- The rule of a new key, a key at a time.
+pub new-none : (nm : Naming) (s : Text) (q : Place) (new : Span) (next : Rule) → newBy nm s q new [] next ≡ next
+unfolding newKey newName
+new-none byKey s q new next = refl
+new-none byName s q new next = refl
+
+pub new-more : (nm : Naming) (s : Text) (q : Place) (new k : Span) (ks : List Span) (next : Rule)
+    → newBy nm s q new (k ∷ ks) next ≡ bind (compare q) (λ p n. test (sameBy nm s new k) (stop Duplicate q) (newBy nm s q new ks next))
+unfolding newKey newName
+new-more byKey s q new k ks next = refl
+new-more byName s q new k ks next = refl
+
 -- Comparing a new key and going on is the same as comparing it, and then going on.
-module _ (sub : Routine → Place → Tally → Outcome) (L : Limits) (s : Text) (q : Place) (key : Span) (next : Rule) where
-  key-bind : (ks : List Span) (t : Tally)
-      → under sub L t (newKey s q key ks next) ≡ under sub L t (bind (newKey s q key ks (done q (plain 0 q))) (λ p n. next))
-  unfolding under after joined newKey steps
-  key-bind [] t = refl
-  key-bind (k ∷ ks) t = go (judge L t (compared q)) (sameKey s key k) (key-bind ks (withComparison t))
+module _ (sub : Routine → Place → Tally → Outcome) (L : Limits) (nm : Naming) (s : Text) (q : Place) (key : Span) (next : Rule) where
+  new-bind : (ks : List Span) (t : Tally)
+      → under sub L t (newBy nm s q key ks next) ≡ under sub L t (bind (newBy nm s q key ks (done q (plain 0 q))) (λ p n. next))
+  unfolding under after joined steps
+  new-bind [] t = rw (new-none nm s q key next, new-none nm s q key (done q (plain 0 q))) refl
+  new-bind (k ∷ ks) t =
+      rw (new-more nm s q key k ks next, new-more nm s q key k ks (done q (plain 0 q)))
+      (go (judge L t (compared q)) (sameBy nm s key k) (new-bind ks (withComparison t)))
     where
       turn : Tally → Bool → Rule → Outcome
       turn u b x = elim b [ true ↦ ended (Stop Duplicate q) | false ↦ under sub L u x ]
@@ -246,55 +286,79 @@ module _ (sub : Routine → Place → Tally → Outcome) (L : Limits) (s : Text)
       first v = judged v (compared q) (ended (Done q (plain 0 q)))
 
       go : (v : Verdict) (b : Bool)
-          → under sub L (withComparison t) (newKey s q key ks next)
-          ≡ under sub L (withComparison t) (bind (newKey s q key ks (done q (plain 0 q))) (λ p n. next))
-          → after t (first v) (λ p n u. turn u b (newKey s q key ks next))
-          ≡ after t (after t (first v) (λ p n u. turn u b (newKey s q key ks (done q (plain 0 q))))) (λ p n u. under sub L u next)
+          → under sub L (withComparison t) (newBy nm s q key ks next)
+          ≡ under sub L (withComparison t) (bind (newBy nm s q key ks (done q (plain 0 q))) (λ p n. next))
+          → after t (first v) (λ p n u. turn u b (newBy nm s q key ks next))
+          ≡ after t (after t (first v) (λ p n u. turn u b (newBy nm s q key ks (done q (plain 0 q))))) (λ p n u. under sub L u next)
       go goes true e = refl
       go goes false e =
-          let o : Outcome = under sub L (withComparison t) (newKey s q key ks (done q (plain 0 q))) in
+          let o : Outcome = under sub L (withComparison t) (newBy nm s q key ks (done q (plain 0 q))) in
           ap (cons (compared q)) e ∙ sym (joined-cons t (o .end) (compared q) (o .events) (λ p n u. under sub L u next))
       go (over w p) b e = refl
 
-module _ {G : Grammar Routine} {cap comps left : ℕ} {t : Tally} {r : Out} {A B : List ℕ} (s : Text) (q : Place) (key : Span) (ks : List Span) (next : Rule) where
-  pub key-next : Does layout G cap comps left t (bind (newKey s q key ks (done q (plain 0 q))) (λ p n. next)) r A B
-      → Does layout G cap comps left t (newKey s q key ks next) r A B
-  key-next h = record { says = λ d nest. rw (key-bind (run G (limited nest cap comps) left d) (limited nest cap comps) s q key next ks t) (h .says d nest) }
+module _ {G : Grammar Routine} {cap comps left : ℕ} {t : Tally} {r : Out} {A B : List ℕ} (nm : Naming) (s : Text) (q : Place) (key : Span) (ks : List Span) (next : Rule) where
+  pub new-next : Does layout G cap comps left t (bind (newBy nm s q key ks (done q (plain 0 q))) (λ p n. next)) r A B
+      → Does layout G cap comps left t (newBy nm s q key ks next) r A B
+  new-next h = record { says = λ d nest. rw (new-bind (run G (limited nest cap comps) left d) (limited nest cap comps) nm s q key next ks t) (h .says d nest) }
 
 -- A new key that stands nowhere yet: the rule goes on, at the tally reached.
+pub new-then : {G : Grammar Routine} {cap comps left : ℕ} {t u : Tally} {s : Text} {q p : Place} {key : Span} {ks : List Span} {n : Node} {r r′ : Out} {next : Rule} {A B : List ℕ} (nm : Naming)
+    → Clashes nm s comps t q key ks r → r ≡ Read p n u → Does layout G cap comps left u next r′ A B
+    → Does layout G cap comps left t (newBy nm s q key ks next) r′ A B
+new-then {G} {cap} {left = left} {s = s} {q = q} {key = key} {ks = ks} {next = next} {A = A} nm h e d =
+    new-next nm s q key ks next (then (told e (h .does G cap left A)) d)
+
 pub key-then : {G : Grammar Routine} {cap comps left : ℕ} {t u : Tally} {s : Text} {q p : Place} {key : Span} {ks : List Span} {n : Node} {r r′ : Out} {next : Rule} {A B : List ℕ}
-    → Clashes s comps t q key ks r → r ≡ Read p n u → Does layout G cap comps left u next r′ A B
+    → Clashes byKey s comps t q key ks r → r ≡ Read p n u → Does layout G cap comps left u next r′ A B
     → Does layout G cap comps left t (newKey s q key ks next) r′ A B
-key-then {G} {cap} {left = left} {s = s} {q = q} {key = key} {ks = ks} {next = next} {A = A} h e d =
-    key-next s q key ks next (then (told e (h .does G cap left A)) d)
+key-then h e d = new-then byKey h e d
+
+pub name-then : {G : Grammar Routine} {cap comps left : ℕ} {t u : Tally} {s : Text} {q p : Place} {key : Span} {ks : List Span} {n : Node} {r r′ : Out} {next : Rule} {A B : List ℕ}
+    → Clashes byName s comps t q key ks r → r ≡ Read p n u → Does layout G cap comps left u next r′ A B
+    → Does layout G cap comps left t (newName s q q key ks next) r′ A B
+name-then h e d = new-then byName h e d
 
 -- One that is refused, whatever would follow.
+pub new-stops : {G : Grammar Routine} {cap comps left : ℕ} {t u : Tally} {s : Text} {q p : Place} {key : Span} {ks : List Span} {k : Refusal} {r : Out} {A : List ℕ} (nm : Naming) (next : Rule)
+    → Clashes nm s comps t q key ks r → r ≡ Refused k p u
+    → Does layout G cap comps left t (newBy nm s q key ks next) (Refused k p u) A A
+new-stops {G} {cap} {left = left} {s = s} {q = q} {key = key} {ks = ks} {A = A} nm next h e = new-next nm s q key ks next (stops (told e (h .does G cap left A)))
+
 pub key-stops : {G : Grammar Routine} {cap comps left : ℕ} {t u : Tally} {s : Text} {q p : Place} {key : Span} {ks : List Span} {k : Refusal} {r : Out} {A : List ℕ} (next : Rule)
-    → Clashes s comps t q key ks r → r ≡ Refused k p u
+    → Clashes byKey s comps t q key ks r → r ≡ Refused k p u
     → Does layout G cap comps left t (newKey s q key ks next) (Refused k p u) A A
-key-stops {G} {cap} {left = left} {s = s} {q = q} {key = key} {ks = ks} {A = A} next h e = key-next s q key ks next (stops (told e (h .does G cap left A)))
+key-stops next h e = new-stops byKey next h e
+
+pub name-stops : {G : Grammar Routine} {cap comps left : ℕ} {t u : Tally} {s : Text} {q p : Place} {key : Span} {ks : List Span} {k : Refusal} {r : Out} {A : List ℕ} (next : Rule)
+    → Clashes byName s comps t q key ks r → r ≡ Refused k p u
+    → Does layout G cap comps left t (newName s q q key ks next) (Refused k p u) A A
+name-stops next h e = new-stops byName next h e
 
 -- The keys that the code walked are those of the chain.
-pub clashes-at : {pool : List ℕ} {last : ℕ} {ks : List Span} {s : Text} {comps : ℕ} {t : Tally} {at : Place} {key : Span} {r : Out} → Chained pool last ks
-    → Clashes s comps t at key (keysOf pool last) r → Clashes s comps t at key ks r
-clashes-at {s = s} {comps = comps} {t = t} {at = at} {key = key} {r = r} c h = subst (λ (ks : List Span). Clashes s comps t at key ks r) (keys-of c) h
+pub clashes-at : {pool : List ℕ} {last : ℕ} {ks : List Span} {s : Text} {comps : ℕ} {t : Tally} {at : Place} {key : Span} {r : Out} {nm : Naming} → Chained nm pool last ks
+    → Clashes nm s comps t at key (keysOf nm pool last) r → Clashes nm s comps t at key ks r
+clashes-at {s = s} {comps = comps} {t = t} {at = at} {key = key} {r = r} {nm = nm} c h = subst (λ (ks : List Span). Clashes nm s comps t at key ks r) (keys-of c) h
 
 -- Where a key was read, nothing but the comparisons has changed.
 pub kept : {at p : Place} {t u : Tally} {n : Node} {r : Out} → Stays at t r → r ≡ Read p n u → Kept at t p u
 kept {at} {t = t} h e = subst (λ (r : Out). StaysBy at t r) e (h .goes)
 
--- ---- what a reader of a dictionary holds, from step to step
+-- ---- what a reader of a list holds, from step to step
 
-pub listed-none : {pool : List ℕ} {t : Tally} → Listed pool t 0 []
+-- the keys that it holds are those of the pool
+pub listed-own : {pool : List ℕ} {t : Tally} {last : ℕ} {ks : List Span} {nm : Naming} → Listed nm pool t last ks → Listed nm pool t last (keysOf nm pool last)
+listed-own {pool} {t} {last} {nm = nm} h = subst (λ (x : List Span). Listed nm pool t last x) (sym (keys-of (h .chained))) h
+
+pub listed-none : {pool : List ℕ} {t : Tally} {nm : Naming} → Listed nm pool t 0 []
 listed-none = record { chained = none; made = omega arith }
 
 -- after a new key
-pub listed-kept : {pool : List ℕ} {at p : Place} {t u : Tally} {last : ℕ} {ks : List Span} → Kept at t p u → Listed pool t last ks → Listed pool u last ks
+pub listed-kept : {pool : List ℕ} {at p : Place} {t u : Tally} {last : ℕ} {ks : List Span} {nm : Naming} → Kept at t p u → Listed nm pool t last ks → Listed nm pool u last ks
 listed-kept k h = let e = k .records in let m = h .made in record { chained = h .chained; made = omega arith }
 
 -- after whatever was read
-pub listed-does : {N : Type 0} {G : Grammar N} {cap comps left : ℕ} {t u : Tally} {P : Process N} {p : Place} {n : Node} {r : Out} {before later : List ℕ} {last : ℕ} {ks : List Span}
-    → Does layout G cap comps left t P r before later → r ≡ Read p n u → Listed before t last ks → Listed later u last ks
+pub listed-does : {N : Type 0} {G : Grammar N} {cap comps left : ℕ} {t u : Tally} {P : Process N} {p : Place} {n : Node} {r : Out} {before later : List ℕ} {last : ℕ} {ks : List Span} {nm : Naming}
+    → Does layout G cap comps left t P r before later → r ≡ Read p n u → Listed nm before t last ks → Listed nm later u last ks
 listed-does {G = G} {cap} {comps} {left} {t} {u} {P} {p} {n} {r} d e h =
     let o : Outcome = under (run G (limited 0 cap comps) left 0) (limited 0 cap comps) t P in
     let m = h .made in
@@ -312,11 +376,23 @@ listed-does {G = G} {cap} {comps} {left} {t} {u} {P} {p} {n} {r} d e h =
     go (Spent q) es x = absurd x
 
 -- after its item was put
-pub listed-put : {cap : ℕ} {t : Tally} {p : Place} {value v : ℕ} {r : Out} {before later : List ℕ} {last : ℕ} {key : Span} {ks : List Span} {q : Place} {n : Node} {u : Tally}
-    → Makes layout cap t p (recordOf (pairRow value last key)) v r before later → r ≡ Read q n u → Lent before cap → Packs key
-    → Listed before t last ks → Listed later u (n .number) (key ∷ ks)
-listed-put {t = t} {n = n} {u = u} m e lent k h =
+pub item-put : {cap : ℕ} {t : Tally} {p : Place} {v : ℕ} {r : Out} {before later : List ℕ} {last : ℕ} {key : Span} {ks : List Span} {q : Place} {n : Node} {u : Tally} {nm : Naming} {w : Row}
+    → Names nm w last key → Makes layout cap t p (recordOf w) v r before later → r ≡ Read q n u → Lent before cap
+    → Listed nm before t last ks → Listed nm later u (n .number) (key ∷ ks)
+item-put {t = t} {n = n} {u = u} k m e lent h =
     let d = made m e in
     let f : n .number ≡ t .records + 1 = ap (λ (n : Node). n .number) (d .node) in
     let g : u .records ≡ t .records + 1 = ap (λ (t : Tally). t .records) (d .tally) in
-    record { chained = chained-put m e lent (h .made) k (h .chained); made = omega arith }
+    record { chained = chained-put k m e lent (h .made) (h .chained); made = omega arith }
+
+pub listed-put : {cap : ℕ} {t : Tally} {p : Place} {value v : ℕ} {r : Out} {before later : List ℕ} {last : ℕ} {key : Span} {ks : List Span} {q : Place} {n : Node} {u : Tally}
+    → Makes layout cap t p (recordOf (pairRow value last key)) v r before later → r ≡ Read q n u → Lent before cap → Packs key
+    → Listed byKey before t last ks → Listed byKey later u (n .number) (key ∷ ks)
+listed-put {value = value} {last = last} {key = key} m e lent k h =
+    item-put {w = pairRow value last key} (record { before = refl; word = refl; packs = k }) m e lent h
+
+pub listed-param : {cap : ℕ} {t : Tally} {p : Place} {v : ℕ} {r : Out} {before later : List ℕ} {last : ℕ} {name : Span} {ks : List Span} {q : Place} {n : Node} {u : Tally}
+    → Makes layout cap t p (recordOf (paramRow (spanWord (name .from) (name .to)) last)) v r before later → r ≡ Read q n u → Lent before cap → Packs name
+    → Listed byName before t last ks → Listed byName later u (n .number) (name ∷ ks)
+listed-param {last = last} {name = name} m e lent k h =
+    item-put {w = paramRow (spanWord (name .from) (name .to)) last} (record { before = refl; word = refl; packs = k }) m e lent h

@@ -19,5 +19,6 @@ pub mod Refusing
 pub mod Leads
 pub mod Suits
 pub mod Contracts
+pub mod Parameters
 pub mod Examples
 pub mod UnitExamples

@@ -1,4 +1,4 @@
-// The keys of a dictionary: a new one is compared with those of the items before it, which stand in the pool.
+// The keys of a dictionary and the names of a parameter list: a new one is compared with those of the items before it, which stand in the pool.
 use characters::place::Place;
 use characters::refusal::Refusal;
 use literals::strings::Span;
@@ -10,7 +10,7 @@ use records::comparisons::count;
 ghost use mathlib.Core.Path.{_≡_};
 ghost use Prim.Native.Nat.{_*_, _≤_, _<_, _^_};
 ghost use lib.ListN.{length};
-ghost use Rattle.grammar.specs.Keys.{entryOf, keysOf, WellChained, Clashes};
+ghost use Rattle.grammar.specs.Keys.{byKey, entryAt, keysOf, WellChained, Clashes};
 
 // What an item holds of its key: the span, and the item before it; 0 is none.
 pub struct Entry {
@@ -18,17 +18,17 @@ pub struct Entry {
     pub before: u32,
 }
 
-// The entry of an item of the pool.
-fn entry_at(pool: &[u32], item: u32) -> Entry
-    requires { ⌜ (1 ≤ item) × (item * 8 ≤ length (now pool)) ⌝ }
-    ensures { λ r. ⌜ r ≡ entryOf (now (pool .entry)) item ⌝ }
+// The entry of an item of the pool: its span is in the word `held` of its row.
+pub fn entry_at(pool: &[u32], item: u32, held: usize) -> Entry
+    requires { ⌜ (1 ≤ item) × (item * 8 ≤ length (now pool)) × (held < 8) ⌝ }
+    ensures { λ r. ⌜ r ≡ entryAt held (now (pool .entry)) item ⌝ }
 {
     let end = (item as usize) * 8;
     let base = end - 8;
     let link = base + 5;
-    let held = base + 6;
+    let span = base + held;
     let before = pool[link];
-    let word = pool[held];
+    let word = pool[span];
     let from = word % 65536;
     let to = word / 65536;
     let key = Span { from, to };
@@ -46,8 +46,8 @@ pub fn new_key(
     key: Span,
     last: u32,
 ) -> Out
-    requires { ⌜ (length (now text) < 2 ^ 31) × WellChained (now pool) last ⌝ }
-    ensures { λ r. ⌜ Clashes (now (text .entry)) comps t at key (keysOf (now (pool .entry)) last) r ⌝ }
+    requires { ⌜ (length (now text) < 2 ^ 31) × WellChained byKey (now pool) last ⌝ }
+    ensures { λ r. ⌜ Clashes byKey (now (text .entry)) comps t at key (keysOf byKey (now (pool .entry)) last) r ⌝ }
 {
     let mut item = last;
     let mut tally = t;
@@ -65,7 +65,7 @@ pub fn new_key(
         else {
             return counted;
         };
-        let entry = entry_at(pool, item);
+        let entry = entry_at(pool, item, 6);
         let other = entry.key;
         let same = same_key(text, key, other);
         if same {

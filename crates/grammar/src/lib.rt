@@ -8,5 +8,6 @@ pub mod heads;
 pub mod keys;
 pub mod leaves;
 pub mod operators;
+pub mod parameters;
 pub mod rows;
 pub mod signs;

@@ -1,4 +1,4 @@
-// The rows that the readers of expressions make, and the node of a list.
+// The rows that the readers make, and the node of a list.
 use characters::place::Place;
 use literals::strings::Span;
 use reading::node::Node;
@@ -11,6 +11,7 @@ ghost use Prim.Native.Nat.{_≤_};
 ghost use Rattle.reading.specs.Entry.{nowhere};
 ghost use Rattle.grammar.specs.Leaves.{leafRow, rowOf};
 ghost use Rattle.grammar.specs.Expressions.{listNode, pairRow};
+ghost use Rattle.grammar.specs.Functions.{funRow};
 
 // A row with a kind, a position and up to three fields.
 pub fn row(kind: Kind, position: Place, a: u32, b: u32, c: u32) -> Row
@@ -77,5 +78,19 @@ pub fn leaf_row(kind: Kind, position: Place, value: u64) -> Row
         b,
         c: 0,
         d: 0,
+    }
+}
+
+// A function's row: its id, its name or 0, its last parameter and its body.
+pub fn fun_row(position: Place, id: u32, name: u32, params: u32, body: u32) -> Row
+    ensures { λ r. ⌜ r ≡ funRow position id name params body ⌝ }
+{
+    Row {
+        kind: Kind::Fun,
+        position,
+        a: id,
+        b: name,
+        c: params,
+        d: body,
     }
 }

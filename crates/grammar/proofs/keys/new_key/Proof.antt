@@ -1,12 +1,14 @@
 -- `new_key`: each turn counts and compares one key of the chain. The item falls, for each refers to an earlier one. Assumes nothing.
 use borrow.Author.Needs.{needs}
+use native.Mathlib.Omega.{arith}
+use Rattle.grammar.specs.Keys.{byKey}
 use Rattle.grammar.specs.KeyLaws.{walked}
 use Rattle.grammar.proofs.Walking.{Walks, walk-end, walk-over, walk-same, walk-on, walk-less}
 use Rattle.grammar.proofs.keys.new_key.Statement.{statement}
 use Rattle.grammar.proofs.keys.new_key.Tie as tie
 
 abbrev Inv-loop : tie.InvT-loop
-Inv-loop text pool comps at key last item₀ tally₀ item tally = Walks text pool comps at key last tally₀ item tally
+Inv-loop text pool comps at key last item₀ tally₀ item tally = Walks byKey text pool comps at key last tally₀ item tally
 
 abbrev μ-loop : tie.MeasureT-loop
 μ-loop text pool comps at key last item₀ tally₀ item tally = item
@@ -33,7 +35,7 @@ returns-2 : tie.Need-returns-2 Inv-loop μ-loop
 returns-2 c = walk-over (c .before .before .before .before .loop .inv) (c .before .before .before .if1 .left) (c .before .before .count .ensures) (c .enum-told .given .1)
 
 entry-at-requires : tie.Need-entry-at-requires Inv-loop μ-loop
-entry-at-requires c κs = let z = walked (c .before .before .before .before .before .loop .inv .chained) (c .before .before .before .before .if1 .left) in (z .some, z .inside)
+entry-at-requires c κs = let z = walked (c .before .before .before .before .before .loop .inv .chained) (c .before .before .before .before .if1 .left) in (z .some, z .inside, omega arith)
 
 same-key-requires : tie.Need-same-key-requires Inv-loop μ-loop
 same-key-requires c κs = search needs

@@ -1,0 +1,24 @@
+-- `make_fun` by its rule: an id, then a record. Assumes nothing.
+use Rattle.grammar.proofs.Params.{fun-made}
+use borrow.Author.Needs.{needs}
+use Rattle.grammar.proofs.parameters.make_fun.Statement.{statement}
+use Rattle.grammar.proofs.parameters.make_fun.Tie as tie
+
+numbered-requires : tie.Need-numbered-requires
+numbered-requires c κs = search needs
+
+fun-row-requires : tie.Need-fun-row-requires
+fun-row-requires c κs = search needs
+
+put-requires : tie.Need-put-requires
+put-requires c κs = search needs
+
+same-length : tie.Need-same-length
+same-length c = search needs
+
+returns : tie.Need-returns
+returns c = fun-made (c .before .before .before .before .before .before .before .args .params) (c .before .before .before .before .before .before .before .args .body) (c .before .before .before .before .before .numbered .ensures) (c .before .before .before .before .fun-row .ensures) (c .before .before .put .ensures)
+
+pub make-fun-spec : {M : Type 1} → statement M
+make-fun-spec =
+    tie.close (tie.spec numbered-requires fun-row-requires put-requires same-length returns)

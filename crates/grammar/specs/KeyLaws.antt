@@ -110,10 +110,6 @@ pub chained-does : {N : Type 0} {G : Grammar N} {cap comps left : ℕ} {t : Tall
     → Does layout G cap comps left t P r before later → last ≤ t .records → Chained nm before last ks → Chained nm later last ks
 chained-does d h c = chained-says (d .says 0 0) h c
 
-pub chained-makes : {cap : ℕ} {t : Tally} {p : Place} {rec : Rec} {v : ℕ} {r : Out} {before later : List ℕ} {last : ℕ} {ks : List Span} {nm : Naming}
-    → Makes layout cap t p rec v r before later → last ≤ t .records → Chained nm before last ks → Chained nm later last ks
-chained-makes m h c = chained-says (m .says 0 0) h c
-
 -- ---- an item more
 
 -- The words of a row that is read back.
@@ -333,11 +329,6 @@ pub name-stops : {G : Grammar Routine} {cap comps left : ℕ} {t u : Tally} {s :
     → Clashes byName s comps t q key ks r → r ≡ Refused k p u
     → Does layout G cap comps left t (newName s q q key ks next) (Refused k p u) A A
 name-stops next h e = new-stops byName next h e
-
--- The keys that the code walked are those of the chain.
-pub clashes-at : {pool : List ℕ} {last : ℕ} {ks : List Span} {s : Text} {comps : ℕ} {t : Tally} {at : Place} {key : Span} {r : Out} {nm : Naming} → Chained nm pool last ks
-    → Clashes nm s comps t at key (keysOf nm pool last) r → Clashes nm s comps t at key ks r
-clashes-at {s = s} {comps = comps} {t = t} {at = at} {key = key} {r = r} {nm = nm} c h = subst (λ (ks : List Span). Clashes nm s comps t at key ks r) (keys-of c) h
 
 -- Where a key was read, nothing but the comparisons has changed.
 pub kept : {at p : Place} {t u : Tally} {n : Node} {r : Out} → Stays at t r → r ≡ Read p n u → Kept at t p u

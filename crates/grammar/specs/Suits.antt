@@ -1,5 +1,5 @@
--- THE GRAMMAR OF EXPRESSIONS SUITS: each routine moves on inside the text, so the rest of the text is a measure and every loop has turns
--- enough; it answers with a record that was made; its records refer to earlier ones; and it refuses properly. Assumes nothing.
+-- THE GRAMMAR OF EXPRESSIONS SUITS: each routine moves on inside the text, so the rest of the text and a routine's weight are a measure,
+-- and every loop has turns enough; it answers with a record that was made; its records refer to earlier ones; and it refuses properly. Assumes nothing.
 use mathlib.Core.Path.{_≡_, refl, sym, subst}
 use mathlib.Core.List.{List, [], _∷_}
 use mathlib.Core.Bool.{Bool, true, false}

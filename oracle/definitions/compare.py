@@ -34,8 +34,9 @@ LAST_COLUMN = 16383     # the engine's columns stop here
 # y bytes, f a float, i an integer.
 KINDS = """- true false nil int:i float:f string:k bytes:y array:r dict:r name:s host:s closure:r index:rr member:rs
 instanceof:rs unary:ur binary:brr choice:rrr call:rr do:r assign:rr return:r assert:r break continue block:r if:rrr
-for:rrrr let:nsr classdecl:r fun:nsrr class:nssr item:rr param:sr pair:rrk global:rrn""".split()
-ITEMS = ["item", "param", "pair", "global"]     # they have no position, and the listing calls each of them item
+for:rrrr let:nsr classdecl:r fun:nsrr class:nssr item:rr param:sr pair:rrk global:rrn stated:rr
+method:rr""".split()
+ITEMS = ["item", "param", "pair", "global", "stated", "method"]     # they have no position, and the listing calls each of them item
 UNARY = ["-", "!"]
 BINARY = "* / % + - << >> <= < >= > == != && || & ^ |".split()
 

@@ -17,7 +17,7 @@ use Rattle.grammar.specs.declared.heads.ClassHead.{ClassHead}
 use Rattle.grammar.specs.declared.heads.ClassHead.the-variants.{Opened, Wrong}
 use Rattle.grammar.specs.Leaves.{closeOf}
 use Rattle.grammar.specs.Heads.{nameOf, classOf}
-use Rattle.grammar.specs.Expressions.{Rule, function, turns, itemRow}
+use Rattle.grammar.specs.Expressions.{Rule, function, turns, methodRow}
 use Rattle.grammar.specs.Functions.{nameSpan, nameWord, newName, withName}
 
 -- ---- method: name function
@@ -26,9 +26,9 @@ use Rattle.grammar.specs.Functions.{nameSpan, nameWord, newName, withNam
 unfoldable pub isInit : Text → Place → Place → Bool
 isInit s h q = same (part s (h .offset) (q .offset)) (ascii "init")
 
--- 32: "`init` without parameter", tested when the function is read
+-- 32: "`init` without parameter", tested when the function is read: it has no last parameter item
 unfoldable pub methodEndP : Bool → Node → ℕ → Place → Rule
-methodEndP init f last p = test (init && eqb (f .value) 0) (stop InitWithoutParameter p) (make p (recordOf (itemRow f last)) 0)
+methodEndP init f last p = test (init && eqb (f .value) 0) (stop InitWithoutParameter p) (make p (recordOf (methodRow f last)) 0)
 
 -- a method and its item; the function stands at its name
 unfoldable pub methodP : Text → List Span → ℕ → Place → Rule

@@ -64,9 +64,19 @@ is k n = eqb (n .kind) (numberOf k)
 abbrev pub listNode : ℕ → ℕ → Place → Node
 listNode last count p = record { number = last; kind = 0; position = p; value = count }
 
--- "items none": an item has no position
+-- "items none": an item has no position. It holds a record and the item before it
+abbrev pub heldRow : Kind → Node → ℕ → Row
+heldRow kind n last = rowOf kind nowhere (n .number) last 0
+
+-- the item of an expression, of a statement, of a method's function
 abbrev pub itemRow : Node → ℕ → Row
-itemRow n last = rowOf kinds.Item nowhere (n .number) last 0
+itemRow n last = heldRow kinds.Item n last
+
+abbrev pub statedRow : Node → ℕ → Row
+statedRow n last = heldRow kinds.Stated n last
+
+abbrev pub methodRow : Node → ℕ → Row
+methodRow n last = heldRow kinds.Method n last
 
 -- an element and its item: "An item follows its element"
 unfoldable pub elementP : ℕ → Place → Rule

@@ -20,7 +20,7 @@ use Rattle.records.specs.Rows.{recordOf}
 use Rattle.records.specs.Words.{spanWord}
 use Rattle.grammar.specs.Leaves.{rowOf, closeOf, followOf}
 use Rattle.grammar.specs.Heads.{endOf}
-use Rattle.grammar.specs.Expressions.{Rule, expression, statement, turns, listNode, itemRow}
+use Rattle.grammar.specs.Expressions.{Rule, expression, statement, turns, listNode, statedRow}
 
 -- ---- names that are compared
 
@@ -84,7 +84,7 @@ blockRow from last = rowOf kinds.Block from last 0 0
 
 -- a statement and its item
 unfoldable pub blockItemP : ℕ → Place → Rule
-blockItemP last p = bind (call statement p) (λ q x. make q (recordOf (itemRow x last)) 0)
+blockItemP last p = bind (call statement p) (λ q x. make q (recordOf (statedRow x last)) 0)
 
 -- the statements of the block that stands at `from`
 unfoldable pub statementsP : ℕ → Text → Place → ℕ → Place → Rule
@@ -105,10 +105,10 @@ blockP s from p = statementsP (turns s) s from 0 p
 abbrev pub funRow : Place → ℕ → ℕ → ℕ → ℕ → Row
 funRow from id name params body = record { kind = kinds.Fun; position = from; a = id; b = name; c = params; d = body }
 
--- a function whose body is read: its id, then its record. Its value is the number of its parameters
+-- a function whose body is read: its id, then its record. Its value is its last parameter item
 unfoldable pub funP : Place → ℕ → Node → Node → Place → Rule
 funP from name params body q =
-    bind (fresh q) (λ p i. make p (recordOf (funRow from (i .number) name (params .number) (body .number))) (params .value))
+    bind (fresh q) (λ p i. make p (recordOf (funRow from (i .number) name (params .number) (body .number))) (params .number))
 
 -- "a function's body block" adds no level
 unfoldable pub bodyBlockP : Text → Place → Rule

@@ -81,9 +81,19 @@ named k n = recordOf (leafRow kinds.Name (at k) (spanWord k (k + n)))
 abbrev int : ℕ → ℕ → Rec
 int k v = recordOf (leafRow kinds.Int (at k) v)
 
--- the item of an element, after another item
+-- the item of a record, after another item
+abbrev held : Kind → ℕ → ℕ → Rec
+held kind number last = recordOf (rowOf kind nowhere number last 0)
+
+-- of an expression, of a statement, of a method's function
 abbrev item : ℕ → ℕ → Rec
-item element last = recordOf (rowOf kinds.Item nowhere element last 0)
+item number last = held kinds.Item number last
+
+abbrev stated : ℕ → ℕ → Rec
+stated number last = held kinds.Stated number last
+
+abbrev method : ℕ → ℕ → Rec
+method number last = held kinds.Method number last
 
 -- a record of this kind and these fields
 abbrev made : Kind → ℕ → ℕ → ℕ → ℕ → Rec
@@ -117,13 +127,13 @@ desk =
 -- AS DOCUMENT 01 SAYS
 as-document-01-says : desk
     -- `f(1);`
-    ≡ example 0 6 8 0 (named 0 1 ∷ int 2 1 ∷ item 2 0 ∷ made kinds.Call 1 1 3 0 ∷ made kinds.Do 0 4 0 0 ∷ item 5 0 ∷ ending 6 7)
+    ≡ example 0 6 8 0 (named 0 1 ∷ int 2 1 ∷ item 2 0 ∷ made kinds.Call 1 1 3 0 ∷ made kinds.Do 0 4 0 0 ∷ stated 5 0 ∷ ending 6 7)
     -- "nesting 2 gives 5 at 1:3, 1 record"
     ∷ example 5 3 1 0 (named 0 1 ∷ [])
     -- "empty text: accepted, 2 records"
     ∷ example 0 1 2 0 (ending 0 1)
     -- 9223372036854775807
-    ∷ example 0 25 6 0 (named 0 1 ∷ int 4 9223372036854775807 ∷ made kinds.Assign 0 1 2 0 ∷ item 3 0 ∷ ending 4 5)
+    ∷ example 0 25 6 0 (named 0 1 ∷ int 4 9223372036854775807 ∷ made kinds.Assign 0 1 2 0 ∷ stated 3 0 ∷ ending 4 5)
     -- "14 at 1:25, 1 record"
     ∷ example 14 25 1 0 (named 0 1 ∷ [])
     -- "14 at 1:23"
@@ -139,7 +149,7 @@ as-document-01-says : desk
     ∷ made kinds.Choice 12 4 5 6
     ∷ made kinds.Choice 4 2 3 7
     ∷ made kinds.Assign 0 1 8 0
-    ∷ item 9 0
+    ∷ stated 9 0
     ∷ ending 10 11)
     -- "25 at 1:15, 4 records"
     ∷ example 25 15 4 0 (named 0 1 ∷ named 4 1 ∷ named 8 1 ∷ named 12 1 ∷ [])
@@ -152,10 +162,10 @@ as-document-01-says : desk
     ∷ example 20 10 1 0 (named 0 1 ∷ [])
     ∷ example 11 3 1 0 (named 0 1 ∷ [])
     -- "integer -5 at 1:7"
-    ∷ example 0 10 7 0 (named 0 1 ∷ int 6 5 ∷ int 6 18446744073709551611 ∷ made kinds.Assign 0 1 3 0 ∷ item 4 0 ∷ ending 5 6)
+    ∷ example 0 10 7 0 (named 0 1 ∷ int 6 5 ∷ int 6 18446744073709551611 ∷ made kinds.Assign 0 1 3 0 ∷ stated 4 0 ∷ ending 5 6)
     -- "bytes 20 68 69"
     ∷ spelling (0x20 ∷ 0x68 ∷ 0x69 ∷ [])
-    (example 0 14 6 0 (named 0 1 ∷ recordOf (leafRow kinds.Bytes (at 4) (spanWord 4 12)) ∷ made kinds.Assign 0 1 2 0 ∷ item 3 0 ∷ ending 4 5))
+    (example 0 14 6 0 (named 0 1 ∷ recordOf (leafRow kinds.Bytes (at 4) (spanWord 4 12)) ∷ made kinds.Assign 0 1 2 0 ∷ stated 3 0 ∷ ending 4 5))
     ∷ []
 unfolding desk
 as-document-01-says = refl
@@ -186,13 +196,13 @@ class-is-drawn : recorded (ascii "class A extends B { init(self, x) { self.x = x
     ∷ made kinds.Member 40 3 (spanWord 41 42) 0
     ∷ named 45 1
     ∷ made kinds.Assign 36 4 5 0
-    ∷ item 6 0
+    ∷ stated 6 0
     ∷ made kinds.Block 34 7 0 0
     ∷ whole4 kinds.Fun 20 1 (spanWord 20 24) 2 8
-    ∷ item 9 0
+    ∷ method 9 0
     ∷ whole4 kinds.Class 0 2 (spanWord 6 7) (spanWord 16 17) 10
     ∷ made kinds.ClassDecl 0 11 0 0
-    ∷ item 12 0
+    ∷ stated 12 0
     ∷ made kinds.Block 0 13 0 0
     ∷ whole4 kinds.Fun 0 3 0 0 14
     ∷ []
@@ -208,10 +218,10 @@ if-is-drawn : recorded (ascii "if (a) ++b; else { return; }")
     ∷ made kinds.Assign 7 2 4 0
     ∷ made kinds.Nil 19 0 0 0
     ∷ made kinds.Return 19 6 0 0
-    ∷ item 7 0
+    ∷ stated 7 0
     ∷ made kinds.Block 17 8 0 0
     ∷ made kinds.If 0 1 5 9
-    ∷ item 10 0
+    ∷ stated 10 0
     ∷ ending 11 12
 unfolding entered recordsOf
 if-is-drawn = refl
@@ -225,7 +235,7 @@ for-is-drawn : recorded (ascii "for (;; a += 1) {}")
     ∷ made kinds.Block 16 0 0 0
     ∷ made kinds.True 0 0 0 0
     ∷ whole4 kinds.For 0 0 6 4 5
-    ∷ item 7 0
+    ∷ stated 7 0
     ∷ ending 8 9
 unfolding entered recordsOf
 for-is-drawn = refl
@@ -241,10 +251,10 @@ globals-are-numbered : recorded (ascii "let a = 1; let f = |b| b; let var c = 2;
     ∷ whole4 kinds.Fun 19 1 0 4 6
     ∷ made kinds.Closure 19 7 0 0
     ∷ made kinds.Let 11 0 (spanWord 15 16) 8
-    ∷ item 9 3
+    ∷ stated 9 3
     ∷ int 38 2
     ∷ made kinds.Let 26 1 (spanWord 34 35) 11
-    ∷ item 12 10
+    ∷ stated 12 10
     ∷ int 49 3
     ∷ made kinds.Let 41 0 (spanWord 45 46) 14
     ∷ global 15 13 1

@@ -24,7 +24,7 @@ use Rattle.grammar.specs.declared.heads.ItemHead.{ItemHead}
 use Rattle.grammar.specs.declared.heads.ItemHead.the-variants.{End, Class, Statement, Wrong}
 use Rattle.grammar.specs.Leaves.{rowOf}
 use Rattle.grammar.specs.Heads.{itemOf}
-use Rattle.grammar.specs.Expressions.{Rule, statement, class, turns, is, itemRow}
+use Rattle.grammar.specs.Expressions.{Rule, statement, class, turns, is, statedRow}
 use Rattle.grammar.specs.Functions.{newName, blockRow, funRow}
 use Rattle.grammar.specs.Statements.{constant, functional}
 use Rattle.grammar.specs.Grammar.{grammar}
@@ -83,13 +83,13 @@ globalRow x last number = rowOf kinds.Global nowhere (x .number) last number
 unfoldable pub unitItemP : Text → Declared → Node → ℕ → Place → Rule
 unfolding newName
 unitItemP s d x last q =
-    test (isFunction x) (newName s q (x .position) (declaredName x) (d .funs) (make q (recordOf (itemRow x last)) 0))
-    (test (isConstant x) (make q (recordOf (globalRow x last (d .globals))) 0) (make q (recordOf (itemRow x last)) 0))
+    test (isFunction x) (newName s q (x .position) (declaredName x) (d .funs) (make q (recordOf (statedRow x last)) 0))
+    (test (isConstant x) (make q (recordOf (globalRow x last (d .globals))) 0) (make q (recordOf (statedRow x last)) 0))
 
 -- a class's declaration and its item
 unfoldable pub classItemP : Place → Node → ℕ → Place → Rule
 classItemP from c last q =
-    bind (make q (recordOf (rowOf kinds.ClassDecl from (c .number) 0 0)) 0) (λ p x. make p (recordOf (itemRow x last)) 0)
+    bind (make q (recordOf (rowOf kinds.ClassDecl from (c .number) 0 0)) 0) (λ p x. make p (recordOf (statedRow x last)) 0)
 
 -- ---- unit: { item }
 

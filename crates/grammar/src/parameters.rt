@@ -247,5 +247,5 @@ pub fn make_fun(
 {
     let u = t.numbered();
     let made = fun_row(from, u.ids, name, params.number, body.number);
-    put(pool, cap, u, at, made, params.value)
+    put(pool, cap, u, at, made, params.number as u64)
 }

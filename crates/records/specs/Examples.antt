@@ -9,7 +9,7 @@ use Rattle.reading.specs.Demands.{AllEarlier}
 use Rattle.reading.specs.Entry.{nowhere}
 use Rattle.reading.specs.Says.{laid}
 use Rattle.records.specs.declared.kind.Kind.{Kind}
-use Rattle.records.specs.declared.kind.Kind.the-variants.{Int, Name, Call, Do, Block, Fun, Item}
+use Rattle.records.specs.declared.kind.Kind.the-variants.{Int, Name, Call, Do, Block, Fun, Item, Stated}
 use Rattle.records.specs.declared.row.Row.{Row}
 use Rattle.records.specs.declared.row.RowAt.the-variants.{Here}
 use Rattle.records.specs.Words.{spanWord}
@@ -30,7 +30,7 @@ rows =
     ∷ row Item nowhere 2 0 0 0
     ∷ row Call (at 1) 1 3 0 0
     ∷ row Do (at 0) 4 0 0 0
-    ∷ row Item nowhere 5 0 0 0
+    ∷ row Stated nowhere 5 0 0 0
     ∷ row Block (at 0) 6 0 0 0
     ∷ row Fun (at 0) 1 0 0 7
     ∷ []

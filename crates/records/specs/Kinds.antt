@@ -5,7 +5,7 @@ use mathlib.Core.Bool.{Bool, true, false}
 use Prim.Native.Nat.{ℕ}
 use lib.ListN.{getD}
 use Rattle.records.specs.declared.kind.Kind.{Kind}
-use Rattle.records.specs.declared.kind.Kind.the-variants.{True, False, Nil, Int, Float, String, Bytes, Array, Dict, Name, Host, Closure, Index, Member, InstanceOf, Unary, Binary, Choice, Call, Do, Assign, Return, Assert, Break, Continue, Block, If, For, Let, ClassDecl, Fun, Class, Item, Param, Pair, Global}
+use Rattle.records.specs.declared.kind.Kind.the-variants.{True, False, Nil, Int, Float, String, Bytes, Array, Dict, Name, Host, Closure, Index, Member, InstanceOf, Unary, Binary, Choice, Call, Do, Assign, Return, Assert, Break, Continue, Block, If, For, Let, ClassDecl, Fun, Class, Item, Param, Pair, Global, Stated, Method}
 use Rattle.records.specs.declared.kind.KindAt.{KindAt}
 use Rattle.records.specs.declared.kind.KindAt.the-variants.{Known, Unknown}
 
@@ -15,7 +15,6 @@ pub data Meaning : Type 0 where
   statement : Meaning  -- the record of a statement; 0 where it is absent
   function : Meaning  -- the record of a function
   class : Meaning  -- the record of a class
-  element : Meaning  -- the record of an expression, a statement or a function
   items : Meaning  -- the last item of a list, or the item before this one; 0 where there is none
   span : Meaning  -- a span of the text, in one word; 0 where there is no name
   low : Meaning  -- the low half of an int64
@@ -32,7 +31,6 @@ isReference expression = true
 isReference statement = true
 isReference function = true
 isReference class = true
-isReference element = true
 isReference items = true
 isReference span = false
 isReference low = false
@@ -86,10 +84,12 @@ shape Let = shaped 29 "let" (mark ∷ span ∷ expression ∷ [])
 shape ClassDecl = shaped 30 "classdecl" (class ∷ [])
 shape Fun = shaped 31 "fun" (id ∷ span ∷ items ∷ statement ∷ [])
 shape Class = shaped 32 "class" (id ∷ span ∷ span ∷ items ∷ [])
-shape Item = shaped 33 "item" (element ∷ items ∷ [])
+shape Item = shaped 33 "item" (expression ∷ items ∷ [])
 shape Param = shaped 34 "item" (span ∷ items ∷ [])
 shape Pair = shaped 35 "item" (expression ∷ items ∷ span ∷ [])
 shape Global = shaped 36 "item" (statement ∷ items ∷ number ∷ [])
+shape Stated = shaped 37 "item" (statement ∷ items ∷ [])
+shape Method = shaped 38 "item" (function ∷ items ∷ [])
 
 -- The number of a kind in a row; 0 is no kind's.
 abbrev pub numberOf : Kind → ℕ
@@ -139,6 +139,8 @@ kinds =
     ∷ Known Param
     ∷ Known Pair
     ∷ Known Global
+    ∷ Known Stated
+    ∷ Known Method
     ∷ []
 
 -- The kind that a number stands for.

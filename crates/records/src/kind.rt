@@ -2,8 +2,8 @@
 ghost use mathlib.Core.Path.{_≡_};
 ghost use Rattle.records.specs.Kinds.{numberOf, kindOf};
 
-// Each kind, by the listing's name; the four last are all listed as `item`: an element, a parameter's name, an element with a
-// dictionary key, and a statement with a global number.
+// Each kind, by the listing's name; the six last are all listed as `item`: an expression, a parameter's name, an expression with a
+// dictionary key, a statement with a global number, a statement without one, and a method's function.
 pub enum Kind {
     True,
     False,
@@ -41,6 +41,8 @@ pub enum Kind {
     Param,
     Pair,
     Global,
+    Stated,
+    Method,
 }
 
 // What a number stands for.
@@ -91,6 +93,8 @@ impl Kind {
             Kind::Param => 34,
             Kind::Pair => 35,
             Kind::Global => 36,
+            Kind::Stated => 37,
+            Kind::Method => 38,
         }
     }
 
@@ -135,6 +139,8 @@ impl Kind {
             34 => Kind::Param,
             35 => Kind::Pair,
             36 => Kind::Global,
+            37 => Kind::Stated,
+            38 => Kind::Method,
             _ => return KindAt::Unknown,
         };
         KindAt::Known { kind }

@@ -4,7 +4,7 @@ use Prim.Native.Nat.{ℕ, zero, suc, _≤_, _<_}
 use native.Mathlib.Omega.{arith}
 use lib.ListN.{length, List·getD-eq-default}
 use Rattle.records.specs.declared.kind.Kind.{Kind}
-use Rattle.records.specs.declared.kind.Kind.the-variants.{True, False, Nil, Int, Float, String, Bytes, Array, Dict, Name, Host, Closure, Index, Member, InstanceOf, Unary, Binary, Choice, Call, Do, Assign, Return, Assert, Break, Continue, Block, If, For, Let, ClassDecl, Fun, Class, Item, Param, Pair, Global}
+use Rattle.records.specs.declared.kind.Kind.the-variants.{True, False, Nil, Int, Float, String, Bytes, Array, Dict, Name, Host, Closure, Index, Member, InstanceOf, Unary, Binary, Choice, Call, Do, Assign, Return, Assert, Break, Continue, Block, If, For, Let, ClassDecl, Fun, Class, Item, Param, Pair, Global, Stated, Method}
 use Rattle.records.specs.declared.kind.KindAt.the-variants.{Known, Unknown}
 use Rattle.records.specs.Kinds.{numberOf, kinds, kindOf}
 
@@ -46,6 +46,8 @@ kind-number Item = refl
 kind-number Param = refl
 kind-number Pair = refl
 kind-number Global = refl
+kind-number Stated = refl
+kind-number Method = refl
 
 -- Two kinds have two numbers.
 pub number-one : (j k : Kind) → numberOf j ≡ numberOf k → j ≡ k
@@ -61,6 +63,6 @@ above zero x l h = l
 above (suc n) x l h = let a = above n x l (h .0) in let b = h .1 in omega (arith, b)
 
 -- A number of no kind.
-pub kind-none : (x : ℕ) → NoneTo 36 x → kindOf x ≡ Unknown
+pub kind-none : (x : ℕ) → NoneTo 38 x → kindOf x ≡ Unknown
 kind-none zero h = refl
-kind-none (suc x) h = let l : length kinds ≤ suc x = above 36 (suc x) (omega arith) h in List·getD-eq-default kinds Unknown l
+kind-none (suc x) h = let l : length kinds ≤ suc x = above 38 (suc x) (omega arith) h in List·getD-eq-default kinds Unknown l

@@ -10,6 +10,9 @@ numbered-requires c κs = search needs
 fun-row-requires : tie.Need-fun-row-requires
 fun-row-requires c κs = search needs
 
+cast-put : tie.Need-cast-put
+cast-put c = search needs
+
 put-requires : tie.Need-put-requires
 put-requires c κs = search needs
 
@@ -17,8 +20,8 @@ same-length : tie.Need-same-length
 same-length c = search needs
 
 returns : tie.Need-returns
-returns c = fun-made (c .before .before .before .before .before .before .before .args .params) (c .before .before .before .before .before .before .before .args .body) (c .before .before .before .before .before .numbered .ensures) (c .before .before .before .before .fun-row .ensures) (c .before .before .put .ensures)
+returns c = fun-made (c .before .before .before .before .before .before .before .before .args .params) (c .before .before .before .before .before .before .before .before .args .body) (c .before .before .before .before .before .before .numbered .ensures) (c .before .before .before .before .before .fun-row .ensures) (c .before .before .put .ensures)
 
 pub make-fun-spec : {M : Type 1} → statement M
 make-fun-spec =
-    tie.close (tie.spec numbered-requires fun-row-requires put-requires same-length returns)
+    tie.close (tie.spec numbered-requires fun-row-requires cast-put put-requires same-length returns)

@@ -45,4 +45,6 @@ of-spec =
     (λ c. sym (ap kindOf (c .match .keys33)))
     (λ c. sym (ap kindOf (c .match .keys34)))
     (λ c. sym (ap kindOf (c .match .keys35)))
-    (λ c. sym (ap kindOf (c .match .keys36))))
+    (λ c. sym (ap kindOf (c .match .keys36)))
+    (λ c. sym (ap kindOf (c .match .keys37)))
+    (λ c. sym (ap kindOf (c .match .keys38))))

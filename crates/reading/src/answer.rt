@@ -20,6 +20,20 @@ pub enum Out {
     },
 }
 
+// What a reader of a unit answers: read up to `at`, or refused there, with the tally reached. No node crosses a call. What was read is
+// the last record made: its number is the count of records, and the pool holds the rest.
+pub enum Got {
+    Read {
+        at: Place,
+        tally: Tally,
+    },
+    Refused {
+        refusal: Refusal,
+        at: Place,
+        tally: Tally,
+    },
+}
+
 // The number (0: accepted, else the refusal's), the place, and both counts.
 pub struct Answer {
     pub number: u32,

@@ -2,5 +2,6 @@ pub mod Promises
 pub mod Kinds
 pub mod Words
 pub mod Rows
+pub mod Nodes
 pub mod Laws
 pub mod Examples

@@ -43,12 +43,12 @@ recordOf w =
 abbrev pub width : ℕ
 width = 8
 
-abbrev pub valueOf : Field → ℕ
-valueOf (word k) = k
-valueOf (ref k) = k
+abbrev pub fieldWord : Field → ℕ
+fieldWord (word k) = k
+fieldWord (ref k) = k
 
-abbrev pub valueAt : List Field → ℕ → ℕ
-valueAt fs i = valueOf (getD fs i (word 0))
+abbrev pub fieldWordAt : List Field → ℕ → ℕ
+fieldWordAt fs i = fieldWord (getD fs i (word 0))
 
 unfoldable pub words : Rec → List ℕ
 words r =
@@ -56,10 +56,10 @@ words r =
     ∷ r .position .offset
     ∷ r .position .line
     ∷ r .position .column
-    ∷ valueAt (r .fields) 0
-    ∷ valueAt (r .fields) 1
-    ∷ valueAt (r .fields) 2
-    ∷ valueAt (r .fields) 3
+    ∷ fieldWordAt (r .fields) 0
+    ∷ fieldWordAt (r .fields) 1
+    ∷ fieldWordAt (r .fields) 2
+    ∷ fieldWordAt (r .fields) 3
     ∷ []
 
 -- THE LAYOUT: a record is laid into the pool after those made before it.

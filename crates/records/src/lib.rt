@@ -2,6 +2,7 @@
 pub mod comparisons;
 pub mod ids;
 pub mod kind;
+pub mod nodes;
 pub mod pool;
 pub mod row;
 pub mod words;

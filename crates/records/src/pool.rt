@@ -23,8 +23,8 @@ pub fn capacity(words: usize) -> u32
     if rows < 65535 { rows as u32 } else { 65535 }
 }
 
-// Writes a row after so many others, and answers its kind's number.
-fn lay(pool: &mut [u32], made: u32, row: Row) -> u32
+// Writes a row after so many others, and answers its kind's number. Nothing else writes into a pool.
+pub fn lay(pool: &mut [u32], made: u32, row: Row) -> u32
     requires { ⌜ made * 8 + 8 ≤ length (now pool) ⌝ }
     ensures { λ r. ⌜ Lays made row r (now (pool .entry)) (now (pool .exit)) ⌝ }
 {

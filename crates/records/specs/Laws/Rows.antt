@@ -22,17 +22,17 @@ use Rattle.records.specs.declared.kind.KindAt.the-variants.{Known}
 use Rattle.records.specs.declared.row.Row.{Row}
 use Rattle.records.specs.declared.row.RowAt.the-variants.{Here, Nothing}
 use Rattle.records.specs.Kinds.{isReference, numberOf, meaningAt, kindOf}
-use Rattle.records.specs.Rows.{asField, recordOf, width, valueOf, words, layout, capOf, Lent, Lays, rowBy, rowFrom, rowIf, rowAt, rowsAt}
+use Rattle.records.specs.Rows.{asField, recordOf, width, fieldWord, words, layout, capOf, Lent, Lays, rowBy, rowFrom, rowIf, rowAt, rowsAt}
 use Rattle.records.specs.Laws.Kinds.{kind-number}
 
 -- ---- the words of a row
 
-value-field : (b : Bool) (k : ℕ) → valueOf (asField b k) ≡ k
+value-field : (b : Bool) (k : ℕ) → fieldWord (asField b k) ≡ k
 value-field true k = refl
 value-field false k = refl
 
 -- The words of the record that a row stands for: each of its fields as it is.
-rowWords : Row → List ℕ
+unfoldable pub rowWords : Row → List ℕ
 rowWords w =
     numberOf (w .kind) ∷ w .position .offset ∷ w .position .line ∷ w .position .column ∷ w .a ∷ w .b ∷ w .c ∷ w .d ∷ []
 
@@ -98,17 +98,24 @@ sets-in (a ∷ vs) l i (suc k) h r =
     rw e (sets-in vs (set l i a) (suc i) k (omega arith) (let z = length-set l i a in omega arith))
 
 module _ (pool : List ℕ) (made : ℕ) (r : Rec) where
-  layout-length : length (layout pool made r) ≡ length pool
+  pub layout-length : length (layout pool made r) ≡ length pool
   unfolding layout
   layout-length = length-sets pool (made * width) (words r)
 
-  layout-before : (i : ℕ) → i < made * width → getD (layout pool made r) i 0 ≡ getD pool i 0
+  pub layout-before : (i : ℕ) → i < made * width → getD (layout pool made r) i 0 ≡ getD pool i 0
   unfolding layout
   layout-before i h = sets-before (words r) pool (made * width) i h
 
   layout-past : (i : ℕ) → (made + 1) * width ≤ i → getD (layout pool made r) i 0 ≡ getD pool i 0
   unfolding layout
   layout-past i h = sets-past (words r) pool (made * width) i (omega arith)
+
+-- The words that were laid are the row's.
+pub layout-word : (pool : List ℕ) (made : ℕ) (w : Row) (j : ℕ) → made * width + width ≤ length pool → j < width
+    → getD (layout pool made (recordOf w)) (made * width + j) 0 ≡ getD (rowWords w) j 0
+unfolding layout rowWords
+layout-word pool made w j h l =
+    sets-in (words (recordOf w)) pool (made * width) j l (omega arith) ∙ ap (λ (ws : List ℕ). getD ws j 0) (words-row w)
 
 -- A pool keeps its length.
 pub laid-length : (rs : List Rec) (pool : List ℕ) (made : ℕ) → length (laid layout pool made rs) ≡ length pool
@@ -206,14 +213,13 @@ laid-row rs pool made (suc n) h = go (leb (suc n * 8) (length pool)) refl
 
 -- What was laid is read back.
 layout-row : (pool : List ℕ) (made : ℕ) (w : Row) → (made + 1) * 8 ≤ length pool → rowAt (layout pool made (recordOf w)) (made + 1) ≡ Here w
-unfolding layout rowWords
 layout-row pool made w h =
     let p : List ℕ = layout pool made (recordOf w) in
     let l : length p ≡ length pool = layout-length pool made (recordOf w) in
     let e : (made + 1) * 8 - 8 ≡ made * 8 = omega arith in
     row-in p (made + 1) (λ z. omega arith) (omega arith)
     ∙ ap (rowFrom p) e
-    ∙ row-of p (made * 8) w (λ j m. sets-in (words (recordOf w)) pool (made * 8) j m (omega arith) ∙ ap (λ (ws : List ℕ). getD ws j 0) (words-row w))
+    ∙ row-of p (made * 8) w (λ j m. layout-word pool made w j (omega arith) m)
 
 -- Reading back the records laid gives the rows that they are, in their order.
 pub rows-back : (ws : List Row) (pool : List ℕ) (made : ℕ) → (made + length ws) * 8 ≤ length pool

@@ -108,7 +108,7 @@ chained-says {o} {t} {last = last} {ks = ks} {nm = nm} s h c =
 -- So whatever a routine reads, the chains of the records before it stay.
 pub chained-does : {N : Type 0} {G : Grammar N} {cap comps left : ℕ} {t : Tally} {P : Process N} {r : Out} {before later : List ℕ} {last : ℕ} {ks : List Span} {nm : Naming}
     → Does layout G cap comps left t P r before later → last ≤ t .records → Chained nm before last ks → Chained nm later last ks
-chained-does d h c = chained-says (d .says 0 0) h c
+chained-does {left = left} d h c = let z : left ≤ left = omega arith in chained-says (d .says left z) h c
 
 -- ---- an item more
 
@@ -295,7 +295,7 @@ module _ (sub : Routine → Place → Tally → Outcome) (L : Limits) (nm : Nami
 module _ {G : Grammar Routine} {cap comps left : ℕ} {t : Tally} {r : Out} {A B : List ℕ} (nm : Naming) (s : Text) (q : Place) (key : Span) (ks : List Span) (next : Rule) where
   pub new-next : Does layout G cap comps left t (bind (newBy nm s q key ks (done q (plain 0 q))) (λ p n. next)) r A B
       → Does layout G cap comps left t (newBy nm s q key ks next) r A B
-  new-next h = record { says = λ d nest. rw (new-bind (run G (limited nest cap comps) left d) (limited nest cap comps) nm s q key next ks t) (h .says d nest) }
+  new-next h = record { says = λ nest l. rw (new-bind (run G (limited nest cap comps) left (nest - left)) (limited nest cap comps) nm s q key next ks t) (h .says nest l) }
 
 -- A new key that stands nowhere yet: the rule goes on, at the tally reached.
 pub new-then : {G : Grammar Routine} {cap comps left : ℕ} {t u : Tally} {s : Text} {q p : Place} {key : Span} {ks : List Span} {n : Node} {r r′ : Out} {next : Rule} {A B : List ℕ} (nm : Naming)
@@ -351,9 +351,10 @@ listed-kept k h = let e = k .records in let m = h .made in record { chained = h 
 pub listed-does : {N : Type 0} {G : Grammar N} {cap comps left : ℕ} {t u : Tally} {P : Process N} {p : Place} {n : Node} {r : Out} {before later : List ℕ} {last : ℕ} {ks : List Span} {nm : Naming}
     → Does layout G cap comps left t P r before later → r ≡ Read p n u → Listed nm before t last ks → Listed nm later u last ks
 listed-does {G = G} {cap} {comps} {left} {t} {u} {P} {p} {n} {r} d e h =
-    let o : Outcome = under (run G (limited 0 cap comps) left 0) (limited 0 cap comps) t P in
+    let o : Outcome = under (run G (limited left cap comps) left (left - left)) (limited left cap comps) t P in
     let m = h .made in
-    let g = go (o .end) (o .events) (d .says 0 0 .tells) in
+    let z : left ≤ left = omega arith in
+    let g = go (o .end) (o .events) (d .says left z .tells) in
     record { chained = chained-does d m (h .chained); made = omega arith }
   where
     go : (end : End) (es : List Event) → Tells end (steps es t) r → t .records ≤ u .records

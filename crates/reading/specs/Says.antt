@@ -2,7 +2,7 @@
 -- laid into what holds the records. Laws/Says.antt and Laws/Does.antt have one law for each step of a process. Assumes nothing.
 use mathlib.Core.Path.{_≡_}
 use mathlib.Core.List.{List, [], _∷_}
-use Prim.Native.Nat.{ℕ, _+_}
+use Prim.Native.Nat.{ℕ, _+_, _-_, _≤_}
 use Rattle.characters.specs.declared.place.Place.{Place}
 use Rattle.reading.specs.declared.tally.Tally.{Tally}
 use Rattle.reading.specs.declared.answer.Out.{Out}
@@ -28,10 +28,11 @@ pub record Says {M : Type 0} (w : Layout M) (o : Outcome) (t : Tally) (r : Out) 
   pub tells : Tells (o .end) (steps (o .events) t) r
   pub pool : later ≡ laid w before (t .records) (recordsOf (o .events))
 
--- DOES: the contract of every routine of a reader, levelled or not: its process, said at whatever level and nesting limit it stands.
--- Only the levels that are left decide.
+-- DOES: the contract of every routine of a reader, levelled or not: its process, said at whatever nesting limit it stands. Its level is
+-- what the limit gives less what is left. So only the levels that are left decide, and an answer may also tell how few were left.
 pub record Does {M N : Type 0} (w : Layout M) (G : Grammar N) (cap comps left : ℕ) (t : Tally) (P : Process N) (r : Out) (before later : M) : Type 0 where
-  pub says : (d nest : ℕ) → Says w (under (run G (limited nest cap comps) left d) (limited nest cap comps) t P) t r before later
+  pub says : (nest : ℕ) → left ≤ nest
+      → Says w (under (run G (limited nest cap comps) left (nest - left)) (limited nest cap comps) t P) t r before later
 
 -- The contract of a leaf that makes one record; whatever the other limits, and for no grammar in particular.
 pub record Makes {M : Type 0} (w : Layout M) (cap : ℕ) (t : Tally) (p : Place) (rec : Rec) (v : ℕ) (r : Out) (before later : M) : Type 0 where

@@ -3,6 +3,7 @@
 use mathlib.Core.Path.{_≡_, refl, sym, subst, _∙_}
 use mathlib.Core.Bool.{Bool, true, false}
 use Prim.Native.Nat.{ℕ, zero, suc, _+_, _-_, _≤_, _<_}
+use native.Mathlib.Omega.{arith}
 use native.Mathlib.Numerals.{sub-one}
 use lib.Dec.{ltb}
 use borrow.Author.Tests.{lt-ltb, le-ltb}
@@ -86,41 +87,48 @@ counted {comps} {t} {p} {r} {q} {n} {u} h e = go (ltb (t .comparisons) comps) (h
     go true x = record { place = cc; node = cc; tally = cc }
     go false x = absurd (refused-read (sym x ∙ e))
 
+-- The level of a routine that is called with so many levels left is one more than its caller's; with all levels left it is the one outside.
+one-deeper : (left nest : ℕ) → suc left ≤ nest → suc (nest - suc left) ≡ nest - left
+one-deeper left nest l = omega arith
+
+none-taken : (nest : ℕ) → nest - nest ≡ outside
+none-taken nest = omega arith
+
 module _ {M N : Type 0} {w : Layout M} {G : Grammar N} {cap comps left : ℕ} where
   -- done and stop
   pub by-done : {t : Tally} {p : Place} {n : Node} {A : M} → Does w G cap comps left t (done p n) (Read p n t) A A
   unfolding under
-  by-done {t} {p} {n} {A} = record { says = λ d nest. says-ended w (Done p n) t (Read p n t) A refl }
+  by-done {t} {p} {n} {A} = record { says = λ nest l. says-ended w (Done p n) t (Read p n t) A refl }
 
   pub by-stop : {t : Tally} {k : Refusal} {p : Place} {A : M} → Does w G cap comps left t (stop k p) (Refused k p t) A A
   unfolding under
-  by-stop {t} {k} {p} {A} = record { says = λ d nest. says-ended w (Stop k p) t (Refused k p t) A refl }
+  by-stop {t} {k} {p} {A} = record { says = λ nest l. says-ended w (Stop k p) t (Refused k p t) A refl }
 
   -- a leaf's record, a leaf's comparison, an id
   pub by-make : {t : Tally} {p : Place} {rec : Rec} {v : ℕ} {r : Out} {A B : M} → Makes w cap t p rec v r A B
       → Does w G cap comps left t (make p rec v) r A B
   unfolding under
-  by-make h = record { says = λ d nest. h .says nest comps }
+  by-make h = record { says = λ nest l. h .says nest comps }
 
   pub by-compare : {t : Tally} {p : Place} {r : Out} {A : M} → Compares comps t p r → Does w G cap comps left t (compare p) r A A
   unfolding under
-  by-compare {t} {p} {r} {A} h = record { says = λ d nest. says-compared w nest cap comps t p r A h }
+  by-compare {t} {p} {r} {A} h = record { says = λ nest l. says-compared w nest cap comps t p r A h }
 
   pub by-fresh : {t : Tally} {p : Place} {A : M}
       → Does w G cap comps left t (fresh p) (Read p (plain (t .ids + 1) p) (withId t)) A A
   unfolding under steps recordsOf laid
-  by-fresh = record { says = λ d nest. record { tells = refl; pool = refl } }
+  by-fresh = record { says = λ nest l. record { tells = refl; pool = refl } }
 
   -- one after the other: the first was read; the first was refused
   pub then : {t u : Tally} {X : Process N} {k : Place → Node → Process N} {p : Place} {n : Node} {r : Out} {A B Z : M}
       → Does w G cap comps left t X (Read p n u) A B
       → Does w G cap comps left u (k p n) r B Z → Does w G cap comps left t (bind X k) r A Z
-  then {t} {u} {X} {k} g h = record { says = λ d nest. says-bind w (run G (limited nest cap comps) left d) (limited nest cap comps) t X k (g .says d nest) (h .says d nest) }
+  then {t} {u} {X} {k} g h = record { says = λ nest l. says-bind w (run G (limited nest cap comps) left (nest - left)) (limited nest cap comps) t X k (g .says nest l) (h .says nest l) }
 
   pub stops : {t u : Tally} {X : Process N} {k : Place → Node → Process N} {j : Refusal} {p : Place} {A B : M}
       → Does w G cap comps left t X (Refused j p u) A B
       → Does w G cap comps left t (bind X k) (Refused j p u) A B
-  stops {t} {u} {X} {k} g = record { says = λ d nest. says-bind-stop w (run G (limited nest cap comps) left d) (limited nest cap comps) t X k (g .says d nest) }
+  stops {t} {u} {X} {k} g = record { says = λ nest l. says-bind-stop w (run G (limited nest cap comps) left (nest - left)) (limited nest cap comps) t X k (g .says nest l) }
 
   -- the answer, by what it was found to be
   pub told : {t : Tally} {P : Process N} {r r′ : Out} {A B : M} → r ≡ r′ → Does w G cap comps left t P r A B
@@ -169,7 +177,7 @@ module _ {M N : Type 0} {w : Layout M} {G : Grammar N} {cap comps left : ℕ} wh
       → Does w G cap comps left t (look l′ f g) (Refused k p t) A A
   unfolding under
   halted {t = t} {k = k} {p = p} {f = f} {g = g} {A = A} a e =
-      subst (λ (v : Look). Does w G cap comps left t (look v f g) (Refused k p t) A A) (sym e ∙ a) (record { says = λ d nest. says-ended w (Stop k p) t (Refused k p t) A refl })
+      subst (λ (v : Look). Does w G cap comps left t (look v f g) (Refused k p t) A A) (sym e ∙ a) (record { says = λ nest l. says-ended w (Stop k p) t (Refused k p t) A refl })
 
   -- what has to be there
   pub taken : {l l′ : Must} {t : Tally} {p q : Place} {f : Place → Place → Process N} {r : Out} {A B : M} → l ≡ l′ → l ≡ Taken p q
@@ -181,12 +189,12 @@ module _ {M N : Type 0} {w : Layout M} {G : Grammar N} {cap comps left : ℕ} wh
       → Does w G cap comps left t (must l′ f) (Refused k p t) A A
   unfolding under
   failed {t = t} {k = k} {p = p} {f = f} {A = A} a e =
-      subst (λ (v : Must). Does w G cap comps left t (must v f) (Refused k p t) A A) (sym e ∙ a) (record { says = λ d nest. says-ended w (Stop k p) t (Refused k p t) A refl })
+      subst (λ (v : Must). Does w G cap comps left t (must v f) (Refused k p t) A A) (sym e ∙ a) (record { says = λ nest l. says-ended w (Stop k p) t (Refused k p t) A refl })
 
   -- a level: none is left; one is taken
   pub too-deep : {nt : N} {t : Tally} {p : Place} {A : M} → left ≡ 0 → Does w G cap comps left t (call nt p) (Refused TooDeep p t) A A
   unfolding under
-  too-deep {nt} {t} {p} {A} e = rw e (record { says = λ d nest. says-deep w G (limited nest cap comps) d nt p t A })
+  too-deep {nt} {t} {p} {A} e = rw e (record { says = λ nest l. says-deep w G (limited nest cap comps) (nest - 0) nt p t A })
 
   pub enter : {nt : N} {t : Tally} {p : Place} {r : Out} {A B : M} → (left ≡ 0 → ⊥) → Does w G cap comps (left - 1) t (G nt p) r A B
       → Does w G cap comps left t (call nt p) r A B
@@ -197,7 +205,7 @@ module _ {M N : Type 0} {w : Layout M} {G : Grammar N} {cap comps left : ℕ} wh
       go zero h d = absurd (h refl)
       go (suc l) h d =
           let d′ = rw (sub-one (suc l)) at d in
-          record { says = λ k nest. says-level w G (limited nest cap comps) k nt p t l (d′ .says (suc k) nest) }
+          record { says = λ nest i. says-level w G (limited nest cap comps) (nest - suc l) nt p t l (rw (one-deeper l nest i) (d′ .says nest (omega arith))) }
 
 -- A whole call: refused before reading, or read.
 module _ {M N : Type 0} {w : Layout M} {G : Grammar N} {P : Process N} {o : Opening} {nest cap comps : ℕ} where
@@ -231,5 +239,7 @@ module _ {M N : Type 0} {w : Layout M} {G : Grammar N} {P : Process N} {o : Open
   unfolding reading
   call-read {k} {r} {A} {B} e s a b u d =
       let d′ : Does w G cap comps nest start P r A B = subst (λ (x : ℕ). Does w G x comps nest start P r A B) e d in
-      let z : Says w (reading G (limited nest cap comps) P) start r A B = d′ .says outside nest in
+      let z : Says w (reading G (limited nest cap comps) P) start r A B =
+      subst (λ (d : ℕ). Says w (under (run G (limited nest cap comps) nest d) (limited nest cap comps) start P) start r A B) (none-taken nest)
+      (d′ .says nest (omega arith)) in
       record { says = rw (entry-open G P o (limited nest cap comps) s (permitted-by (limited nest cap comps) a b) u) z }

@@ -48,6 +48,11 @@ abbrev pub answerFrom : Out → Answer
 answerFrom (Read p n t) = record { number = 0; line = p .line; column = p .column; records = t .records; comparisons = t .comparisons }
 answerFrom (Refused k p t) = record { number = numberOf k; line = p .line; column = p .column; records = t .records; comparisons = t .comparisons }
 
+-- The tally that an answer hands on.
+abbrev pub tallyOf : Out → Tally
+tallyOf (Read p n t) = t
+tallyOf (Refused k p t) = t
+
 -- What the code answers for an ending, at the tally reached. A loop that ran out has no answer: code that answers shows that none did.
 abbrev pub Tells : End → Tally → Out → Type 0
 Tells (Done p n) t r = r ≡ Read p n t

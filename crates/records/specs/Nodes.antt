@@ -97,9 +97,12 @@ outOf pool (Read p u) = out.Read p (nodeAt pool (u .records)) u
 outOf pool (Refused k p u) = out.Refused k p u
 
 -- The contract of what makes the record of a row.
-abbrev pub MakesRow : ℕ → Tally → Place → Row → Got → List ℕ → List ℕ → Type 0
-MakesRow cap t p w r before later = Makes layout cap t p (recordOf w) (valueOf before (t .records) w) (outOf later r) before later
+pub record MakesRow (cap : ℕ) (t : Tally) (p : Place) (w : Row) (r : Got) (before later : List ℕ) : Type 0 where
+  pub makes : Makes layout cap t p (recordOf w) (valueOf before (t .records) w) (outOf later r) before later
 
--- A row at the position of an earlier record.
+-- A row of three fields, and one at the position of an earlier record.
+abbrev pub rowAtPlace : Kind → Place → ℕ → ℕ → ℕ → Row
+rowAtPlace kind p a b c = record { kind = kind; position = p; a = a; b = b; c = c; d = 0 }
+
 abbrev pub rowLike : List ℕ → Kind → ℕ → ℕ → ℕ → ℕ → Row
-rowLike pool kind like a b c = record { kind = kind; position = placeAt pool like; a = a; b = b; c = c; d = 0 }
+rowLike pool kind like a b c = rowAtPlace kind (placeAt pool like) a b c

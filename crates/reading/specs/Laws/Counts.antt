@@ -3,7 +3,7 @@
 use mathlib.Core.Path.{_≡_, refl, sym, subst, _∙_}
 use mathlib.Core.List.{List, [], _∷_, _++_}
 use mathlib.Core.Bool.{Bool, true, false}
-use Prim.Native.Nat.{ℕ, _+_, _≤_}
+use Prim.Native.Nat.{ℕ, _+_, _-_, _≤_}
 use native.Mathlib.Omega.{arith}
 use lib.ListN.{length}
 use lib.Dec.{leb}
@@ -11,10 +11,10 @@ use borrow.Author.Tests.{ltb-true, leb-true}
 use Rattle.characters.specs.declared.place.Place.{Place}
 use Rattle.reading.specs.declared.tally.Tally.{Tally}
 use Rattle.reading.specs.Events.{Event, entered, recorded, compared, numbered, Which, End, Outcome, recordsOf, comparisonsOf, deepest, start, step, steps}
-use Rattle.reading.specs.Limits.{Bound, upto, none, Limits, room, Verdict, goes, over, verdict, judge, judged, cutting, cut}
-use Rattle.reading.specs.Process.{Process, Grammar, reading}
+use Rattle.reading.specs.Limits.{Bound, upto, none, Limits, limited, room, Verdict, goes, over, verdict, judge, judged, cutting, cut}
+use Rattle.reading.specs.Process.{Process, Grammar, under, run, reading}
 use Rattle.reading.specs.Demands.{Below, Inside, AtMost, Counted}
-use Rattle.reading.specs.Laws.Exact.{below-same, exact}
+use Rattle.reading.specs.Laws.Exact.{below-same, under-cut, run-cut, exact}
 
 pub steps-append : (a b : List Event) (t : Tally) → steps (a ++ b) t ≡ steps b (steps a t)
 unfolding steps
@@ -51,12 +51,15 @@ cutting-kept L t end (e ∷ es) = go (judge L t e) refl (cutting-kept L (step e 
     go goes j h = (j, h)
     go (over w p) j h = tt
 
+below-itself : (L : Limits) → Below L L
+below-itself L = record { levels = omega arith; records = below-same (L .records); comparisons = below-same (L .comparisons) }
+
 -- Every event of a reading is within its limits.
 pub reading-inside : {N : Type 0} (G : Grammar N) (L : Limits) (P : Process N) → Inside L start (reading G L P .events)
 unfolding cut
 reading-inside G L P =
-    let same : Below L L = record { levels = omega arith; records = below-same (L .records); comparisons = below-same (L .comparisons) } in
-    subst (λ (o : Outcome). Inside L start (o .events)) (sym (exact L L same G P)) (cutting-kept L start (reading G L P .end) (reading G L P .events))
+    subst (λ (o : Outcome). Inside L start (o .events)) (sym (exact L L (below-itself L) G P))
+    (cutting-kept L start (reading G L P .end) (reading G L P .events))
 
 passed : (b : Bool) (w : Which) (p : Place) → verdict b w p ≡ goes → b ≡ true
 unfolding verdict
@@ -116,3 +119,22 @@ inside-counted L o i =
       comparisons-within = rw c at (inside-comparisons L start (o .events) (none-yet (L .comparisons)) i);
       levels-within = inside-levels L start (o .events) i;
     }
+
+-- A process begun at any tally, where all the levels of its limit are left.
+module _ {N : Type 0} (G : Grammar N) (cap comps left : ℕ) (t : Tally) (P : Process N) where
+  abbrev pub atFirst : Outcome
+  atFirst = under (run G (limited left cap comps) left (left - left)) (limited left cap comps) t P
+
+  first-inside : Inside (limited left cap comps) t (atFirst .events)
+  unfolding cut
+  first-inside =
+      let L : Limits = limited left cap comps in
+      let same : atFirst ≡ cut L t atFirst =
+      under-cut L L (below-itself L) (run G L left (left - left)) (run G L left (left - left))
+      (run-cut L L (below-itself L) G left left (left - left) (omega arith) (omega arith)) P t
+      in
+      subst (λ (o : Outcome). Inside L t (o .events)) (sym same) (cutting-kept L t (atFirst .end) (atFirst .events))
+
+  -- Records that were within their limit stay so.
+  pub first-records : t .records ≤ cap → steps (atFirst .events) t .records ≤ cap
+  first-records h = inside-records (limited left cap comps) t (atFirst .events) h first-inside

@@ -1,6 +1,6 @@
 -- The laws of `Does`, which go along the code's path: a return of a routine is proved by a term that mirrors the steps taken to it.
 -- Each law's last premise is about what is left of the process. Assumes nothing.
-use mathlib.Core.Path.{_≡_, refl, sym, subst, _∙_}
+use mathlib.Core.Path.{_≡_, refl, sym, ap, subst, _∙_}
 use mathlib.Core.Bool.{Bool, true, false}
 use Prim.Native.Nat.{ℕ, zero, suc, _+_, _-_, _≤_, _<_}
 use native.Mathlib.Omega.{arith}
@@ -18,12 +18,13 @@ use Rattle.reading.specs.declared.node.Node.{Node}
 use Rattle.reading.specs.declared.tally.Tally.{Tally}
 use Rattle.reading.specs.declared.answer.Out.{Out}
 use Rattle.reading.specs.declared.answer.Out.the-variants.{Read, Refused}
-use Rattle.reading.specs.Events.{Rec, recorded, compared, records, comparisons, Done, Stop, Outcome, ended, recordsOf, start, withRecord, withComparison, withId, steps}
+use Rattle.reading.specs.Events.{Rec, recorded, compared, records, comparisons, End, Done, Stop, Crossed, Spent, Outcome, ended, recordsOf, start, withRecord, withComparison, withId, steps}
 use Rattle.reading.specs.Limits.{limited, verdict, judged, guarded}
 use Rattle.reading.specs.Process.{Process, done, stop, make, compare, fresh, call, test, look, must, bind, Grammar, nodeOf, plain, under, run, outside, reading}
-use Rattle.reading.specs.Answers.{Tells}
+use Rattle.reading.specs.Answers.{tallyOf, Tells}
 use Rattle.reading.specs.Entry.{Opening, permitted, nowhere}
 use Rattle.reading.specs.Says.{Layout, laid, Says, Does, Makes, Compares, Calls}
+use Rattle.reading.specs.Laws.Counts.{tally-records, atFirst, first-records}
 use Rattle.reading.specs.Laws.Entry.{permitted-by, not-zero, not-over, entry-long, entry-nesting, entry-unsound, entry-open}
 use Rattle.reading.specs.Laws.Says.{refused-read, says-ended, says-bind, says-bind-stop, says-deep, says-level, says-compared}
 
@@ -206,6 +207,33 @@ module _ {M N : Type 0} {w : Layout M} {G : Grammar N} {cap comps left : ℕ} wh
       go (suc l) h d =
           let d′ = rw (sub-one (suc l)) at d in
           record { says = λ nest i. says-level w G (limited nest cap comps) (nest - suc l) nt p t l (rw (one-deeper l nest i) (d′ .says nest (omega arith))) }
+
+-- ---- what an answer counts, and what it laid
+
+tells-tally : (e : End) (u : Tally) (r : Out) → Tells e u r → tallyOf r ≡ u
+tells-tally (Done p n) u r h = ap tallyOf h
+tells-tally (Stop k p) u r h = ap tallyOf h
+tells-tally (Crossed w p) u r h = ap tallyOf h
+tells-tally (Spent p) u r h = absurd h
+
+module _ {M N : Type 0} {w : Layout M} {G : Grammar N} {cap comps left : ℕ} {t : Tally} {P : Process N} {r : Out} {A B : M} (d : Does w G cap comps left t P r A B) where
+  first : Says w (atFirst G cap comps left t P) t r A B
+  first = d .says left (omega arith)
+
+  -- Some records were laid over the pool.
+  pub does-pool : B ≡ laid w A (t .records) (recordsOf (atFirst G cap comps left t P .events))
+  does-pool = first .pool
+
+  does-steps : tallyOf r ≡ steps (atFirst G cap comps left t P .events) t
+  does-steps = tells-tally (atFirst G cap comps left t P .end) (steps (atFirst G cap comps left t P .events) t) r (first .tells)
+
+  -- No record is lost,
+  pub does-more : t .records ≤ tallyOf r .records
+  does-more = let z = tally-records (atFirst G cap comps left t P .events) t in let e = ap (λ (u : Tally). u .records) does-steps in omega arith
+
+  -- and the limit on records holds.
+  pub does-within : t .records ≤ cap → tallyOf r .records ≤ cap
+  does-within h = rw does-steps (first-records G cap comps left t P h)
 
 -- A whole call: refused before reading, or read.
 module _ {M N : Type 0} {w : Layout M} {G : Grammar N} {P : Process N} {o : Opening} {nest cap comps : ℕ} where

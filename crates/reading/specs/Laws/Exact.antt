@@ -109,7 +109,7 @@ after-same t o f g h = joined-same t (o .end) (o .events) f g h
 
 module _ {N : Type 0} (L L′ : Limits) (b : Below L L′) where
   module _ (sub sub′ : N → Place → Tally → Outcome) (h : (nt : N) (p : Place) (t : Tally) → sub nt p t ≡ cut L t (sub′ nt p t)) where
-    under-cut : (P : Process N) (t : Tally) → under sub L t P ≡ cut L t (under sub′ L′ t P)
+    pub under-cut : (P : Process N) (t : Tally) → under sub L t P ≡ cut L t (under sub′ L′ t P)
     unfolding under cut
     under-cut (done p n) t = refl
     under-cut (stop k p) t = refl
@@ -132,7 +132,7 @@ module _ {N : Type 0} (L L′ : Limits) (b : Below L L′) where
 
   module _ (G : Grammar N) where
     -- Both readers stand at level d, each with what its limit leaves.
-    run-cut : (left left′ d : ℕ) → d + left ≡ L .levels → d + left′ ≡ L′ .levels → (nt : N) (p : Place) (t : Tally)
+    pub run-cut : (left left′ d : ℕ) → d + left ≡ L .levels → d + left′ ≡ L′ .levels → (nt : N) (p : Place) (t : Tally)
         → run G L left d nt p t ≡ cut L t (run G L′ left′ d nt p t)
     unfolding run cut
     run-cut zero zero d e e′ nt p t = refl

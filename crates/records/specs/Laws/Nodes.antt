@@ -6,21 +6,28 @@ use Prim.Native.Nat.{ℕ, zero, suc, _+_, _-_, _*_, _≤_, _<_}
 use native.Mathlib.Omega.{arith}
 use lib.Dec.{ltb, eqb}
 use lib.ListN.{length, getD}
-use borrow.Author.Tests.{ltb-true}
+use borrow.Author.Tests.{ltb-true, lt-ltb}
 use Rattle.characters.specs.declared.place.Place.{Place}
+use Rattle.characters.specs.declared.refusal.Refusal.{Refusal}
+use Rattle.characters.specs.declared.refusal.Refusal.the-variants.{PoolFull}
 use Rattle.reading.specs.declared.node.Node.{Node}
 use Rattle.reading.specs.declared.tally.Tally.{Tally}
-use Rattle.reading.specs.declared.answer.Got.the-variants.{Read}
+use Rattle.reading.specs.declared.answer.Got.{Got}
+use Rattle.reading.specs.declared.answer.Got.the-variants.{Read, Refused}
+use Rattle.reading.specs.declared.answer.Out.{Out}
 use Rattle.reading.specs.declared.answer.Out.the-variants as out
 use Rattle.reading.specs.Events.{Rec, withRecord}
-use Rattle.reading.specs.Process.{nodeAs, nodeOf}
-use Rattle.reading.specs.Says.{laid, Makes}
-use Rattle.reading.specs.Laws.Does.{makes-one}
+use Rattle.reading.specs.Process.{Process, Grammar, nodeAs, nodeOf}
+use Rattle.reading.specs.Says.{laid, Does, Makes}
+use Rattle.reading.specs.Laws.Does.{makes-one, makes-none, made, told, does-pool}
+use Rattle.records.specs.declared.kind.Kind.{Kind}
+use Rattle.records.specs.declared.kind.Kind.the-variants.{Closure}
 use Rattle.records.specs.declared.row.Row.{Row}
 use Rattle.records.specs.Kinds.{numberOf}
+use Rattle.records.specs.Words.{wholeOf}
 use Rattle.records.specs.Rows.{recordOf, width, layout, Lent, Lays}
-use Rattle.records.specs.Nodes.{wordAt, kindAt, placeAt, Stored, Keeps, valueBy, closureAt, valueAt, valueOf, nodeAt, outOf, MakesRow}
-use Rattle.records.specs.Laws.Rows.{rowWords, layout-word, layout-before, laid-before}
+use Rattle.records.specs.Nodes.{wordAt, kindAt, placeAt, Stored, Keeps, isLeaf, valueBy, closureAt, valueAt, valueOf, nodeAt, outOf, MakesRow, rowAtPlace}
+use Rattle.records.specs.Laws.Rows.{rowWords, layout-word, layout-before, laid-length, laid-before}
 
 -- ---- the words of a record
 
@@ -105,7 +112,7 @@ module _ (pool : List ℕ) (made : ℕ) (w : Row) (room : made * 8 + 8 ≤ lengt
             valueBy (word-laid 0 (omega arith) i) (word-laid 4 (omega arith) i) (word-laid 5 (omega arith) i) (word-laid 6 (omega arith) i) (f i);
       }
 
--- What `make` leaves, where there was room.
+-- What `make` leaves, where there was room, and where there was none.
 pub row-made : {before later : List ℕ} {cap : ℕ} {t : Tally} {at : Place} {w : Row} {k : ℕ} → Lent before cap → t .records < cap
     → Lays (t .records) w k before later
     → MakesRow cap t at w (Read at (withRecord t)) before later
@@ -114,5 +121,71 @@ row-made {before} {later} {cap} {t} {at} {w} h m l =
     let e : nodeAt later (t .records + 1) ≡ nodeOf t (recordOf w) (valueOf before (t .records) w) =
     ap (λ (x : List ℕ). nodeAt x (t .records + 1)) (l .pool) ∙ node-laid before (t .records) w (omega arith)
     in
-    subst (λ (n : Node). Makes layout cap t at (recordOf w) (valueOf before (t .records) w) (out.Read at n (withRecord t)) before later) (sym e)
-    (rw (l .pool) (makes-one m))
+    record {
+      makes =
+          subst (λ (n : Node). Makes layout cap t at (recordOf w) (valueOf before (t .records) w) (out.Read at n (withRecord t)) before later) (sym e)
+          (rw (l .pool) (makes-one m));
+    }
+
+pub row-refused : {pool : List ℕ} {cap : ℕ} {t : Tally} {at : Place} {w : Row} → cap ≤ t .records
+    → MakesRow cap t at w (Refused PoolFull at t) pool pool
+row-refused h = record { makes = makes-none h }
+
+-- What was made, where `make` read on.
+pub record MadeRow (t : Tally) (at : Place) (w : Row) (p : Place) (u : Tally) (before later : List ℕ) : Type 0 where
+  pub place : p ≡ at
+  pub tally : u ≡ withRecord t
+  pub pool : later ≡ layout before (t .records) (recordOf w)
+
+pub row-read : {before later : List ℕ} {cap : ℕ} {t : Tally} {at : Place} {w : Row} {r : Got} {p : Place} {u : Tally}
+    → MakesRow cap t at w r before later → r ≡ Read p u → MadeRow t at w p u before later
+row-read {later = later} h e = let m = made (h .makes) (ap (outOf later) e) in record { place = m .place; tally = m .tally; pool = m .pool }
+
+-- The row, by what it was found to be; and its position alone.
+pub row-as : {before later : List ℕ} {cap : ℕ} {t : Tally} {at : Place} {w v : Row} {r : Got} → w ≡ v → MakesRow cap t at w r before later
+    → MakesRow cap t at v r before later
+row-as e h = rw e at h
+
+pub row-at : {before later : List ℕ} {cap : ℕ} {t : Tally} {at q p : Place} {kind : Kind} {a b c : ℕ} {r : Got} → q ≡ p
+    → MakesRow cap t at (rowAtPlace kind q a b c) r before later
+    → MakesRow cap t at (rowAtPlace kind p a b c) r before later
+row-at {kind = kind} {a = a} {b = b} {c = c} e h = row-as (ap (λ (x : Place). rowAtPlace kind x a b c) e) h
+
+-- ---- values
+
+-- A leaf's value is its two words.
+pub leaf-value : (kind a b c : ℕ) (closure : Bool) → isLeaf kind ≡ true → valueBy kind a b c closure ≡ wholeOf a b
+leaf-value kind a b c closure h = rw (h, valueBy) refl
+
+pub value-leaf : (pool : List ℕ) (n : ℕ) → isLeaf (kindAt pool n) ≡ true → valueAt pool n ≡ wholeOf (wordAt pool n 4) (wordAt pool n 5)
+unfolding valueAt
+value-leaf pool n h = leaf-value (kindAt pool n) (wordAt pool n 4) (wordAt pool n 5) (wordAt pool n 6) (closureAt pool n (wordAt pool n 6)) h
+
+-- Whether a `let` refers to a closure is said by that record's kind.
+pub closure-earlier : (pool : List ℕ) (n k : ℕ) → k < n → closureAt pool n k ≡ eqb (kindAt pool k) (numberOf Closure)
+unfolding closureAt
+closure-earlier pool n k h = rw (lt-ltb k n h)
+
+-- ---- readings
+
+module _ {N : Type 0} {G : Grammar N} {cap comps left : ℕ} {t : Tally} {P : Process N} {before later : List ℕ} where
+  -- A reading leaves the records before it,
+  pub does-keeps : {r : Out} → Does layout G cap comps left t P r before later → Keeps (t .records) before later
+  does-keeps d = subst (Keeps (t .records) before) (sym (does-pool d)) (keeps-laid _ before (t .records))
+
+  -- so their nodes say what they said,
+  pub does-node : {r : Out} → Does layout G cap comps left t P r before later → (n : ℕ) → n ≤ t .records → nodeAt later n ≡ nodeAt before n
+  does-node d n l = node-kept (does-keeps d) n l
+
+  -- and the pool is as long as it was.
+  pub does-length : {r : Out} → Does layout G cap comps left t P r before later → length later ≡ length before
+  does-length d = ap length (does-pool d) ∙ laid-length _ before (t .records)
+
+  -- The answer, by what it was found to be.
+  pub read-of : {r : Got} {p : Place} {u : Tally} → r ≡ Read p u → Does layout G cap comps left t P (outOf later r) before later
+      → Does layout G cap comps left t P (out.Read p (nodeAt later (u .records)) u) before later
+  read-of e d = told (ap (outOf later) e) d
+
+  pub refused-of : {r : Got} {k : Refusal} {p : Place} {u : Tally} → r ≡ Refused k p u → Does layout G cap comps left t P (outOf later r) before later
+      → Does layout G cap comps left t P (out.Refused k p u) before later
+  refused-of e d = told (ap (outOf later) e) d

@@ -1,6 +1,5 @@
 -- `make`: the row laid where there is room, and 6 where there is none. Assumes nothing.
-use Rattle.reading.specs.Laws.Does.{makes-none}
-use Rattle.records.specs.Laws.Nodes.{row-made}
+use Rattle.records.specs.Laws.Nodes.{row-made, row-refused}
 use borrow.Author.Needs.{needs}
 use Rattle.records.proofs.nodes.make.Statement.{statement}
 use Rattle.records.proofs.nodes.make.Tie as tie
@@ -18,7 +17,7 @@ returns : tie.Need-returns
 returns c = row-made (c .before .before .before .before .before .before .pre) (c .before .before .before .before .if1 .taken) (c .before .before .lay .ensures)
 
 returns-2 : tie.Need-returns-2
-returns-2 c = makes-none (c .if1 .left)
+returns-2 c = row-refused (c .if1 .left)
 
 pub make-spec : {M : Type 1} → statement M
 make-spec = tie.close (tie.spec lay-requires add-records same-length returns returns-2)

@@ -218,8 +218,9 @@ module _ {s pool after : List ℕ} {cap comps : ℕ} (end : ℕ) {at : Place} {t
 
 -- ---- the function, its parameters and its body read
 
-pub fun-made : {cap : ℕ} {t u : Tally} {from at : Place} {word : ℕ} {row : Row} {r : Out} {A B : List ℕ} (params body : Node) → u ≡ withId t
-    → row ≡ funRow from (u .ids) word (params .number) (body .number) → Makes layout cap u at (recordOf row) (params .number) r A B
+pub fun-made : {cap : ℕ} {t u : Tally} {from at : Place} {id word : ℕ} {row : Row} {r : Out} {A B : List ℕ} (params body : Node) → id ≡ t .ids + 1
+    → u ≡ withId t
+    → row ≡ funRow from id word (params .number) (body .number) → Makes layout cap u at (recordOf row) (params .number) r A B
     → Acts cap at t (funP from word params body at) r A B
 unfolding funP
-fun-made params body e f m = record { does = λ G comps left. given (ap (λ (t : Tally). t .ids) e) e (by-make (rowed f m)); onward = λ s h. put-on m h }
+fun-made params body i e f m = record { does = λ G comps left. given i e (by-make (rowed f m)); onward = λ s h. put-on m h }

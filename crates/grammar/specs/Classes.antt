@@ -49,12 +49,12 @@ methodsP (suc f) s names last p =
     (λ h. bind (methodP s names last h) (λ q i. methodsP f s (withName (name s h) names) (i .number) q))
 
 -- id, name, parent's name or 0, last method item
-abbrev pub classRow : Place → ℕ → ℕ → ℕ → Node → Row
-classRow from id name parent methods = record { kind = kinds.Class; position = from; a = id; b = name; c = parent; d = methods .number }
+abbrev pub classRow : Place → ℕ → ℕ → ℕ → ℕ → Row
+classRow from id name parent methods = record { kind = kinds.Class; position = from; a = id; b = name; c = parent; d = methods }
 
 -- a class whose methods are read: its id, then its record. The node's value is its name
 unfoldable pub classEndP : Place → ℕ → ℕ → Node → Place → Rule
-classEndP from name parent methods p = bind (fresh p) (λ q i. make q (recordOf (classRow from (i .number) name parent methods)) name)
+classEndP from name parent methods p = bind (fresh p) (λ q i. make q (recordOf (classRow from (i .number) name parent (methods .number))) name)
 
 -- by what stands up to its `{`
 abbrev pub classAs : Text → Place → ℕ → ClassHead → Rule

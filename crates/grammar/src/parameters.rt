@@ -17,6 +17,7 @@ use reading::answer::Out;
 use reading::node::Node;
 use reading::tally::Tally;
 use records::comparisons::count;
+use records::ids::FunId;
 use records::kind::Kind;
 use records::pool::put;
 use records::row::Row;
@@ -245,7 +246,8 @@ pub fn make_fun(
     requires { ⌜ Lent (now pool) cap × (t .ids < 2 ^ 32 - 1) ⌝ }
     ensures { λ r. ⌜ Acts cap at t (funP from name params body at) r (now (pool .entry)) (now (pool .exit)) ⌝ }
 {
+    let id = FunId::next(t);
     let u = t.numbered();
-    let made = fun_row(from, u.ids, name, params.number, body.number);
+    let made = fun_row(from, id, name, params.number, body.number);
     put(pool, cap, u, at, made, params.number as u64)
 }

@@ -2,6 +2,8 @@
 use characters::place::Place;
 use literals::strings::Span;
 use reading::node::Node;
+use records::ids::ClassId;
+use records::ids::FunId;
 use records::kind::Kind;
 use records::row::Row;
 use records::words::high;
@@ -12,6 +14,7 @@ ghost use Rattle.reading.specs.Entry.{nowhere};
 ghost use Rattle.grammar.specs.Leaves.{leafRow, rowOf};
 ghost use Rattle.grammar.specs.Expressions.{listNode, pairRow};
 ghost use Rattle.grammar.specs.Functions.{funRow};
+ghost use Rattle.grammar.specs.Classes.{classRow};
 
 // A row with a kind, a position and up to three fields.
 pub fn row(kind: Kind, position: Place, a: u32, b: u32, c: u32) -> Row
@@ -82,15 +85,31 @@ pub fn leaf_row(kind: Kind, position: Place, value: u64) -> Row
 }
 
 // A function's row: its id, its name or 0, its last parameter and its body.
-pub fn fun_row(position: Place, id: u32, name: u32, params: u32, body: u32) -> Row
-    ensures { λ r. ⌜ r ≡ funRow position id name params body ⌝ }
+pub fn fun_row(position: Place, id: FunId, name: u32, params: u32, body: u32) -> Row
+    ensures { λ r. ⌜ r ≡ funRow position (id .0) name params body ⌝ }
 {
+    let a = id.number();
     Row {
         kind: Kind::Fun,
         position,
-        a: id,
+        a,
         b: name,
         c: params,
         d: body,
+    }
+}
+
+// A class's row: its id, its name, its parent's name or 0, and its last method.
+pub fn class_row(position: Place, id: ClassId, name: u32, parent: u32, methods: u32) -> Row
+    ensures { λ r. ⌜ r ≡ classRow position (id .0) name parent methods ⌝ }
+{
+    let a = id.number();
+    Row {
+        kind: Kind::Class,
+        position,
+        a,
+        b: name,
+        c: parent,
+        d: methods,
     }
 }

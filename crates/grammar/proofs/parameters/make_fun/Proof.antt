@@ -4,6 +4,9 @@ use borrow.Author.Needs.{needs}
 use Rattle.grammar.proofs.parameters.make_fun.Statement.{statement}
 use Rattle.grammar.proofs.parameters.make_fun.Tie as tie
 
+next-requires : tie.Need-next-requires
+next-requires c κs = search needs
+
 numbered-requires : tie.Need-numbered-requires
 numbered-requires c κs = search needs
 
@@ -20,8 +23,8 @@ same-length : tie.Need-same-length
 same-length c = search needs
 
 returns : tie.Need-returns
-returns c = fun-made (c .before .before .before .before .before .before .before .before .args .params) (c .before .before .before .before .before .before .before .before .args .body) (c .before .before .before .before .before .before .numbered .ensures) (c .before .before .before .before .before .fun-row .ensures) (c .before .before .put .ensures)
+returns c = fun-made (c .before .before .before .before .before .before .before .before .before .args .params) (c .before .before .before .before .before .before .before .before .before .args .body) (c .before .before .before .before .before .before .before .next .ensures) (c .before .before .before .before .before .before .numbered .ensures) (c .before .before .before .before .before .fun-row .ensures) (c .before .before .put .ensures)
 
 pub make-fun-spec : {M : Type 1} → statement M
 make-fun-spec =
-    tie.close (tie.spec numbered-requires fun-row-requires cast-put put-requires same-length returns)
+    tie.close (tie.spec next-requires numbered-requires fun-row-requires cast-put put-requires same-length returns)

@@ -25,13 +25,11 @@ use Rattle.reading.specs.Says.{laid, Says, Does, Makes}
 use Rattle.reading.specs.Laws.Counts.{tally-records}
 use Rattle.reading.specs.Laws.Says.{refused-read, makes-unique}
 use Rattle.reading.specs.Laws.Does.{makes-none, made, then, stops, told}
-use Rattle.records.specs.declared.kind.KindAt.{KindAt}
-use Rattle.records.specs.declared.kind.KindAt.the-variants.{Known, Unknown}
 use Rattle.records.specs.declared.row.Row.{Row}
-use Rattle.records.specs.declared.row.RowAt.the-variants.{Here}
-use Rattle.records.specs.Kinds.{kindOf}
-use Rattle.records.specs.Rows.{width, recordOf, layout, Lent, rowBy, rowFrom, rowAt}
-use Rattle.records.specs.Laws.Rows.{laid-length, laid-before, rows-back, row-in}
+use Rattle.records.specs.Rows.{width, recordOf, layout, Lent}
+use Rattle.records.specs.Nodes.{heldAt, heldIn, beforeAt, Keeps}
+use Rattle.records.specs.Laws.Rows.{laid-length}
+use Rattle.records.specs.Laws.Nodes.{keeps-laid, held-kept, held-laid}
 use Rattle.records.specs.Words.{spanWord}
 use Rattle.grammar.specs.Expressions.{Routine, Rule, pairRow, newKey}
 use Rattle.grammar.specs.Functions.{newName, paramRow}
@@ -40,12 +38,9 @@ use Rattle.grammar.specs.Keys.{
   byKey,
   byName,
   held,
-  heldIn,
   sameBy,
   newBy,
   Packs,
-  beforeAt,
-  wordAt,
   entryOf,
   Holds,
   Chained,
@@ -63,36 +58,36 @@ use Rattle.grammar.specs.Keys.{
 
 -- ---- what keeps a chain
 
--- A row has eight words.
-held-in-row : (nm : Naming) → held nm < width
+-- A row has four fields.
+held-in-row : (nm : Naming) → held nm < 4
 held-in-row byKey = omega arith
 held-in-row byName = omega arith
 
 -- An item is its words.
-holds-same : {x y : List ℕ} {made item before : ℕ} {k : Span} {nm : Naming} → length y ≡ length x → ((i : ℕ) → i < made * width → getD y i 0 ≡ getD x i 0)
-    → item ≤ made → Holds nm x item before k → Holds nm y item before k
+holds-same : {x y : List ℕ} {made item before : ℕ} {k : Span} {nm : Naming} → length y ≡ length x → Keeps made x y → item ≤ made
+    → Holds nm x item before k
+    → Holds nm y item before k
 holds-same {item = item} {before = before} {nm = nm} l same h o =
     let some : before < item = o .earlier in
     let room = o .inside in
-    let n = held-in-row nm in
     record {
       inside = omega arith;
-      word = same (item * width - width + held nm) (omega arith) ∙ o .word;
-      link = same (item * width - width + 5) (omega arith) ∙ o .link;
+      word = held-kept same item (held nm) h (held-in-row nm) ∙ o .word;
+      link = held-kept same item 1 h (omega arith) ∙ o .link;
       earlier = some;
       packs = o .packs;
     }
 
 -- Two pools that agree on the rows up to here have the same chains there.
-chained-same : {x y : List ℕ} {made item : ℕ} {ks : List Span} {nm : Naming} → length y ≡ length x → ((i : ℕ) → i < made * width → getD y i 0 ≡ getD x i 0)
-    → item ≤ made → Chained nm x item ks → Chained nm y item ks
+chained-same : {x y : List ℕ} {made item : ℕ} {ks : List Span} {nm : Naming} → length y ≡ length x → Keeps made x y → item ≤ made → Chained nm x item ks
+    → Chained nm y item ks
 chained-same l same h none = none
 chained-same l same h (more o c) = let before = o .earlier in more (holds-same l same h o) (chained-same l same (omega arith) c)
 
 -- Laying records keeps the chains of those before.
 pub chained-laid : {pool : List ℕ} {made last : ℕ} {ks : List Span} {nm : Naming} (rs : List Rec) → last ≤ made → Chained nm pool last ks
     → Chained nm (laid layout pool made rs) last ks
-chained-laid {pool} {made} rs h c = chained-same (laid-length rs pool made) (laid-before rs pool made) h c
+chained-laid {pool} {made} rs h c = chained-same (laid-length rs pool made) (keeps-laid rs pool made) h c
 
 -- And so does laying one.
 pub chained-layout : {pool : List ℕ} {made last : ℕ} {ks : List Span} {nm : Naming} (r : Rec) → last ≤ made → Chained nm pool last ks
@@ -112,39 +107,10 @@ chained-does {left = left} d h c = let z : left ≤ left = omega arith in chaine
 
 -- ---- an item more
 
--- The words of a row that is read back.
-row-words : (nm : Naming) (pool : List ℕ) (base : ℕ) (w : Row) → rowFrom pool base ≡ Here w
-    → (getD pool (base + 5) 0 ≡ w .b) × (getD pool (base + held nm) 0 ≡ heldIn nm w)
-row-words nm pool base w e =
-    go nm (kindOf (getD pool base 0)) _ (getD pool (base + 4) 0) (getD pool (base + 5) 0) (getD pool (base + 6) 0) (getD pool (base + 7) 0) refl refl e
-  where
-    go : (nm : Naming) (k : KindAt) (p : Place) (a b c d : ℕ) → getD pool (base + 4) 0 ≡ a → getD pool (base + 6) 0 ≡ c → rowBy k p a b c d ≡ Here w
-        → (b ≡ w .b) × (getD pool (base + held nm) 0 ≡ heldIn nm w)
-    go byKey (Known k) p a b c d x y e =
-        let f : _≡_ {A = Row} (record { kind = k; position = p; a = a; b = b; c = c; d = d }) w = cc in
-        (ap (λ (w : Row). w .b) f, y ∙ ap (λ (w : Row). w .c) f)
-    go byName (Known k) p a b c d x y e =
-        let f : _≡_ {A = Row} (record { kind = k; position = p; a = a; b = b; c = c; d = d }) w = cc in
-        (ap (λ (w : Row). w .b) f, x ∙ ap (λ (w : Row). w .a) f)
-    go nm Unknown p a b c d x y e = let z : _≡_ {A = ℕ} 0 1 = cc in absurd (omega arith)
-
--- The item that was laid last.
-laid-words : (nm : Naming) (pool : List ℕ) (made : ℕ) (w : Row) → (made + 1) * width ≤ length pool
-    → (beforeAt (layout pool made (recordOf w)) (made + 1) ≡ w .b)
-    × (wordAt (held nm) (layout pool made (recordOf w)) (made + 1) ≡ heldIn nm w)
-unfolding laid
-laid-words nm pool made w h =
-    let p : List ℕ = layout pool made (recordOf w) in
-    let l : length p ≡ length pool = laid-length (recordOf w ∷ []) pool made in
-    let rows = rows-back (w ∷ []) pool made h in
-    let e : rowAt p (made + 1) ≡ Here w = cc in
-    let f : rowFrom p ((made + 1) * width - width) ≡ Here w = sym (row-in p (made + 1) (λ z. omega arith) (omega arith)) ∙ e in
-    row-words nm p ((made + 1) * width - width) w f
-
 -- A row that names the item before it and holds this key.
 pub record Names (nm : Naming) (w : Row) (last : ℕ) (key : Span) : Type 0 where
   pub before : w .b ≡ last
-  pub word : heldIn nm w ≡ spanWord (key .from) (key .to)
+  pub word : heldIn w (held nm) ≡ spanWord (key .from) (key .to)
   pub packs : Packs key
 
 -- Laying an item prolongs its chain.
@@ -154,9 +120,15 @@ pub chained-more : {pool : List ℕ} {made last : ℕ} {key : Span} {ks : List S
 unfolding laid
 chained-more {pool} {made} {last} {key} {nm = nm} {w = w} k room h c =
     let l : length (layout pool made (recordOf w)) ≡ length pool = laid-length (recordOf w ∷ []) pool made in
-    let e = laid-words nm pool made w room in
+    let held-at = held-laid pool made w (omega arith) in
     let o : Holds nm (layout pool made (recordOf w)) (made + 1) last key =
-    record { inside = omega arith; word = e .1 ∙ k .word; link = e .0 ∙ k .before; earlier = omega arith; packs = k .packs }
+    record {
+      inside = omega arith;
+      word = held-at (held nm) (held-in-row nm) ∙ k .word;
+      link = held-at 1 (omega arith) ∙ k .before;
+      earlier = omega arith;
+      packs = k .packs;
+    }
     in
     more o (chained-layout (recordOf w) h c)
 
@@ -189,9 +161,9 @@ entry-key : {pool : List ℕ} {item before : ℕ} {k : Span} {nm : Naming} → H
 entry-key {pool} {item} {k = k} {nm = nm} o =
     let a = o .packs .from in
     let b = o .packs .to in
-    let w : wordAt (held nm) pool item ≡ k .from + 65536 * (k .to) = o .word in
-    let f : wordAt (held nm) pool item % 65536 ≡ k .from = omega arith in
-    let g : wordAt (held nm) pool item / 65536 ≡ k .to = omega arith in
+    let w : heldAt pool item (held nm) ≡ k .from + 65536 * (k .to) = o .word in
+    let f : heldAt pool item (held nm) % 65536 ≡ k .from = omega arith in
+    let g : heldAt pool item (held nm) / 65536 ≡ k .to = omega arith in
     λ i. record { from = f i; to = g i }
 
 keys-step : (nm : Naming) (f : ℕ) (pool : List ℕ) (item : ℕ) → 1 ≤ item → keysBy nm (suc f) pool item ≡ entryOf nm pool item .key ∷ keysBy nm f pool (beforeAt pool item)

@@ -3,8 +3,8 @@
 use mathlib.Core.Path.{_≡_}
 use mathlib.Core.List.{List, [], _∷_}
 use mathlib.Core.Bool.{Bool}
-use Prim.Native.Nat.{ℕ, zero, suc, _+_, _-_, _*_, _/_, _%_, _≤_, _<_}
-use lib.ListN.{length, getD}
+use Prim.Native.Nat.{ℕ, zero, suc, _*_, _≤_, _<_}
+use lib.ListN.{length}
 use Rattle.characters.specs.declared.place.Place.{Place}
 use Rattle.characters.specs.Text.{Text}
 use Rattle.literals.specs.declared.strings.Span.{Span}
@@ -14,9 +14,9 @@ use Rattle.reading.specs.declared.answer.Out.{Out}
 use Rattle.reading.specs.declared.answer.Out.the-variants.{Read, Refused}
 use Rattle.reading.specs.Process.{Grammar, done, plain}
 use Rattle.reading.specs.Says.{Does}
-use Rattle.records.specs.declared.row.Row.{Row}
 use Rattle.records.specs.Rows.{width, layout}
-use Rattle.records.specs.Words.{spanWord}
+use Rattle.records.specs.Words.{spanWord, spanOf}
+use Rattle.records.specs.Nodes.{heldAt, beforeAt}
 use Rattle.grammar.specs.declared.keys.Entry.{Entry}
 use Rattle.grammar.specs.Expressions.{Routine, Rule, newKey}
 use Rattle.grammar.specs.Functions.{sameName, newName}
@@ -26,15 +26,10 @@ pub data Naming : Type 0 where
   byKey : Naming
   byName : Naming
 
--- the word of the row that holds the span
+-- the field that holds the span, as the table of kinds has it for a pair and a parameter
 abbrev pub held : Naming → ℕ
-held byKey = 6
-held byName = 4
-
--- and the field of the row that was laid there
-abbrev pub heldIn : Naming → Row → ℕ
-heldIn byKey w = w .c
-heldIn byName w = w .a
+held byKey = 2
+held byName = 0
 
 abbrev pub sameBy : Naming → Text → Span → Span → Bool
 sameBy byKey s a b = sameKey s a b
@@ -50,17 +45,10 @@ pub record Packs (k : Span) : Type 0 where
   pub from : k .from ≤ 65535
   pub to : k .to ≤ 65535
 
--- The words of an item that the chain goes by: the item before it, and its key's span.
-abbrev pub beforeAt : List ℕ → ℕ → ℕ
-beforeAt pool item = getD pool (item * width - width + 5) 0
-
-abbrev pub wordAt : ℕ → List ℕ → ℕ → ℕ
-wordAt word pool item = getD pool (item * width - width + word) 0
-
--- What an item holds of its key, in this word of its row.
+-- What the chain goes by: an item's key, which this field holds, and the item before it.
 abbrev pub entryAt : ℕ → List ℕ → ℕ → Entry
-entryAt word pool item =
-    record { key = record { from = wordAt word pool item % 65536; to = wordAt word pool item / 65536 }; before = beforeAt pool item }
+entryAt field pool item =
+    record { key = record { from = spanOf (heldAt pool item field) .start; to = spanOf (heldAt pool item field) .end }; before = beforeAt pool item }
 
 abbrev pub entryOf : Naming → List ℕ → ℕ → Entry
 entryOf nm pool item = entryAt (held nm) pool item
@@ -68,7 +56,7 @@ entryOf nm pool item = entryAt (held nm) pool item
 -- An item of the pool that holds this key, after this item. It refers to an earlier one, so a walk back ends.
 pub record Holds (nm : Naming) (pool : List ℕ) (item before : ℕ) (k : Span) : Type 0 where
   pub inside : item * width ≤ length pool
-  pub word : wordAt (held nm) pool item ≡ spanWord (k .from) (k .to)
+  pub word : heldAt pool item (held nm) ≡ spanWord (k .from) (k .to)
   pub link : beforeAt pool item ≡ before
   pub earlier : before < item
   pub packs : Packs k

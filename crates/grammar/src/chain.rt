@@ -1,12 +1,12 @@
 // The chain of pending operators, each with its left side. They bind ever tighter towards the newest, so ten places are enough.
 use crate::operators::strength_of;
+use crate::rows::row;
 use characters::place::Place;
 use reading::answer::Out;
 use reading::node::Node;
 use reading::tally::Tally;
 use records::kind::Kind;
 use records::pool::put;
-use records::row::Row;
 ghost use mathlib.Core.Path.{_≡_};
 ghost use mathlib.Core.List.{[]};
 ghost use Prim.Native.Nat.{_<_};
@@ -79,15 +79,8 @@ fn join(pool: &mut [u32], cap: u32, t: Tally, at: Place, last: Waiting, right: N
     ensures { λ r. ⌜ Makes layout cap t at (recordOf (binaryRow last right)) 0 r (now (pool .entry)) (now (pool .exit)) ⌝ }
 {
     let position = last.position;
-    let row = Row {
-        kind: Kind::Binary,
-        position,
-        a: last.op,
-        b: last.left,
-        c: right.number,
-        d: 0,
-    };
-    put(pool, cap, t, at, row, 0)
+    let binary = row(Kind::Binary, position, last.op, last.left, right.number);
+    put(pool, cap, t, at, binary, 0)
 }
 
 // Makes the binaries of the pending operators that bind at least as tightly as `new`, newest first, when `at` is reached.

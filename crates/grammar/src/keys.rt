@@ -7,9 +7,13 @@ use reading::answer::Out;
 use reading::node::Node;
 use reading::tally::Tally;
 use records::comparisons::count;
+use records::nodes::before_of;
+use records::nodes::held_of;
+use records::words;
 ghost use mathlib.Core.Path.{_≡_};
-ghost use Prim.Native.Nat.{_*_, _≤_, _<_, _^_};
+ghost use Prim.Native.Nat.{_<_, _^_};
 ghost use lib.ListN.{length};
+ghost use Rattle.records.specs.Nodes.{Stored};
 ghost use Rattle.grammar.specs.Keys.{byKey, entryAt, keysOf, WellChained, Clashes};
 
 // What an item holds of its key: the span, and the item before it; 0 is none.
@@ -18,20 +22,18 @@ pub struct Entry {
     pub before: u32,
 }
 
-// The entry of an item of the pool: its span is in the word `held` of its row.
+// The entry of an item of the pool: its field `held` holds the span.
 pub fn entry_at(pool: &[u32], item: u32, held: usize) -> Entry
-    requires { ⌜ (1 ≤ item) × (item * 8 ≤ length (now pool)) × (held < 8) ⌝ }
+    requires { ⌜ (Stored (now pool) item) × (held < 4) ⌝ }
     ensures { λ r. ⌜ r ≡ entryAt held (now (pool .entry)) item ⌝ }
 {
-    let end = (item as usize) * 8;
-    let base = end - 8;
-    let link = base + 5;
-    let span = base + held;
-    let before = pool[link];
-    let word = pool[span];
-    let from = word % 65536;
-    let to = word / 65536;
-    let key = Span { from, to };
+    let before = before_of(pool, item);
+    let word = held_of(pool, item, held);
+    let span = words::Span::of(word);
+    let key = Span {
+        from: span.start,
+        to: span.end,
+    };
     Entry { key, before }
 }
 
@@ -65,7 +67,7 @@ pub fn new_key(
         else {
             return counted;
         };
-        let entry = entry_at(pool, item, 6);
+        let entry = entry_at(pool, item, 2);
         let other = entry.key;
         let same = same_key(text, key, other);
         if same {

@@ -91,7 +91,7 @@ pub fn new_name(
         else {
             return counted;
         };
-        let entry = entry_at(pool, item, 4);
+        let entry = entry_at(pool, item, 0);
         let other = entry.key;
         let same = same_name(text, name, other);
         if same {

@@ -1,5 +1,6 @@
 // What a prefix sign makes of its operand.
 use crate::rows::leaf_row;
+use crate::rows::row;
 use characters::place::Place;
 use characters::refusal::Refusal;
 use reading::answer::Out;
@@ -7,7 +8,6 @@ use reading::node::Node;
 use reading::tally::Tally;
 use records::kind::Kind;
 use records::pool::put;
-use records::row::Row;
 ghost use mathlib.Core.Path.{_≡_};
 ghost use Rattle.records.specs.Rows.{Lent};
 ghost use Rattle.grammar.specs.Contracts.{Acts, Answers};
@@ -27,15 +27,8 @@ pub fn signed(
     ensures { λ r. ⌜ Acts cap at t (signP sign here node at) r (now (pool .entry)) (now (pool .exit)) ⌝ }
 {
     if sign == 33 {
-        let row = Row {
-            kind: Kind::Unary,
-            position: here,
-            a: 2,
-            b: node.number,
-            c: 0,
-            d: 0,
-        };
-        return put(pool, cap, t, at, row, 0);
+        let unary = row(Kind::Unary, here, 2, node.number, 0);
+        return put(pool, cap, t, at, unary, 0);
     }
     if sign == 45 {
         return minus(pool, cap, t, node, at);
@@ -51,23 +44,16 @@ fn minus(pool: &mut [u32], cap: u32, t: Tally, node: Node, at: Place) -> Out
     let position = node.position;
     if node.kind == 4 {
         let value = minus_int(node.value);
-        let row = leaf_row(Kind::Int, position, value);
-        return put(pool, cap, t, at, row, value);
+        let int = leaf_row(Kind::Int, position, value);
+        return put(pool, cap, t, at, int, value);
     }
     if node.kind == 5 {
         let value = minus_float(node.value);
-        let row = leaf_row(Kind::Float, position, value);
-        return put(pool, cap, t, at, row, value);
+        let float = leaf_row(Kind::Float, position, value);
+        return put(pool, cap, t, at, float, value);
     }
-    let row = Row {
-        kind: Kind::Unary,
-        position,
-        a: 1,
-        b: node.number,
-        c: 0,
-        d: 0,
-    };
-    put(pool, cap, t, at, row, 0)
+    let unary = row(Kind::Unary, position, 1, node.number, 0);
+    put(pool, cap, t, at, unary, 0)
 }
 
 // A plus: a number literal stays as it is.

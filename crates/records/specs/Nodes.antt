@@ -2,7 +2,7 @@
 -- records, and its kind, its position and its value stand in its row. Assumes nothing.
 use mathlib.Core.Path.{_≡_}
 use mathlib.Core.Bool.{Bool, true, false, _&&_, _||_}
-use mathlib.Core.List.{List}
+use mathlib.Core.List.{List, [], _∷_}
 use Prim.Native.Nat.{ℕ, zero, suc, _+_, _*_, _≤_, _<_}
 use lib.Dec.{leb, ltb, eqb}
 use lib.ListN.{length, getD}
@@ -35,6 +35,18 @@ kindAt pool number = wordAt pool number 0
 unfoldable pub placeAt : List ℕ → ℕ → Place
 unfolding wordAt
 placeAt pool number = record { offset = wordAt pool number 1; line = wordAt pool number 2; column = wordAt pool number 3 }
+
+-- What it holds in its field with this index, from 0 on. What that means says the table of kinds.
+abbrev pub heldAt : List ℕ → ℕ → ℕ → ℕ
+heldAt pool number i = wordAt pool number (i + 4)
+
+-- The same of a row.
+abbrev pub heldIn : Row → ℕ → ℕ
+heldIn w i = getD (w .a ∷ w .b ∷ w .c ∷ w .d ∷ []) i 0
+
+-- Of an item the one before it; 0 is none.
+abbrev pub beforeAt : List ℕ → ℕ → ℕ
+beforeAt pool item = heldAt pool item 1
 
 -- A number of a record that the pool has room for.
 pub record Stored (pool : List ℕ) (number : ℕ) : Type 0 where

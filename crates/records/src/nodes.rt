@@ -11,7 +11,7 @@ ghost use mathlib.Core.Path.{_≡_};
 ghost use Prim.Native.Nat.{_≤_, _<_};
 ghost use Rattle.records.specs.Words.{wholeOf};
 ghost use Rattle.records.specs.Rows.{Lent};
-ghost use Rattle.records.specs.Nodes.{Stored, wordAt, kindAt, placeAt, MakesRow, rowLike};
+ghost use Rattle.records.specs.Nodes.{Stored, wordAt, kindAt, placeAt, heldAt, beforeAt, MakesRow, rowLike};
 
 // The next record, when `at` is reached; or 6 there, where the limit has no room for it.
 pub fn make(pool: &mut [u32], cap: u32, t: Tally, at: Place, row: Row) -> Got
@@ -93,6 +93,23 @@ pub fn position_of(pool: &[u32], number: u32) -> Place
         line,
         column,
     }
+}
+
+// What it holds in its field with this index, from 0 on.
+pub fn held_of(pool: &[u32], number: u32, field: usize) -> u32
+    requires { ⌜ (Stored (now pool) number) × (field < 4) ⌝ }
+    ensures { λ r. ⌜ r ≡ heldAt (now (pool .entry)) number field ⌝ }
+{
+    let i = field + 4;
+    word_of(pool, number, i)
+}
+
+// Of an item the one before it; 0 is none.
+pub fn before_of(pool: &[u32], item: u32) -> u32
+    requires { ⌜ Stored (now pool) item ⌝ }
+    ensures { λ r. ⌜ r ≡ beforeAt (now (pool .entry)) item ⌝ }
+{
+    held_of(pool, item, 1)
 }
 
 // The value in its first two fields, as a leaf has it.

@@ -26,7 +26,7 @@ use Rattle.records.specs.declared.row.Row.{Row}
 use Rattle.records.specs.Kinds.{numberOf}
 use Rattle.records.specs.Words.{wholeOf}
 use Rattle.records.specs.Rows.{recordOf, width, layout, Lent, Lays}
-use Rattle.records.specs.Nodes.{wordAt, kindAt, placeAt, Stored, Keeps, isLeaf, valueBy, closureAt, valueAt, valueOf, nodeAt, outOf, MakesRow, rowAtPlace}
+use Rattle.records.specs.Nodes.{wordAt, kindAt, placeAt, heldAt, heldIn, Stored, Keeps, isLeaf, valueBy, closureAt, valueAt, valueOf, nodeAt, outOf, MakesRow, rowAtPlace}
 use Rattle.records.specs.Laws.Rows.{rowWords, layout-word, layout-before, laid-length, laid-before}
 
 -- ---- the words of a record
@@ -54,6 +54,9 @@ module _ {made : ℕ} {before later : List ℕ} (h : Keeps made before later) wh
   unfolding wordAt
   word-kept zero i l m = refl
   word-kept (suc n) i l m = h .words (n * 8 + i) (omega arith)
+
+  pub held-kept : (n i : ℕ) → n ≤ made → i < 4 → heldAt later n i ≡ heldAt before n i
+  held-kept n i l m = word-kept n (i + 4) l (omega arith)
 
   pub kind-kept : (n : ℕ) → n ≤ made → kindAt later n ≡ kindAt before n
   unfolding kindAt
@@ -87,6 +90,15 @@ module _ {made : ℕ} {before later : List ℕ} (h : Keeps made before later) wh
 
 -- ---- the record laid last
 
+-- A row's fields are its last four words.
+held-words : (w : Row) (i : ℕ) → i < 4 → getD (rowWords w) (i + 4) 0 ≡ heldIn w i
+unfolding rowWords
+held-words w zero l = refl
+held-words w (suc zero) l = refl
+held-words w (suc (suc zero)) l = refl
+held-words w (suc (suc (suc zero))) l = refl
+held-words w (suc (suc (suc (suc i)))) l = absurd (omega arith)
+
 module _ (pool : List ℕ) (made : ℕ) (w : Row) (room : made * 8 + 8 ≤ length pool) where
   word-laid : (j : ℕ) → j < 8 → wordAt (layout pool made (recordOf w)) (made + 1) j ≡ getD (rowWords w) j 0
   word-laid j l =
@@ -94,6 +106,10 @@ module _ (pool : List ℕ) (made : ℕ) (w : Row) (room : made * 8 + 8 ≤ lengt
       word-in (layout pool made (recordOf w)) (made + 1) j (omega arith)
       ∙ ap (λ (k : ℕ). getD (layout pool made (recordOf w)) k 0) e
       ∙ layout-word pool made w j room l
+
+  -- It holds what its row holds.
+  pub held-laid : (i : ℕ) → i < 4 → heldAt (layout pool made (recordOf w)) (made + 1) i ≡ heldIn w i
+  held-laid i l = word-laid (i + 4) (omega arith) ∙ held-words w i l
 
   -- ITS NODE is the one that the calculus makes.
   pub node-laid : nodeAt (layout pool made (recordOf w)) (made + 1) ≡ nodeAs (made + 1) (recordOf w) (valueOf pool made w)

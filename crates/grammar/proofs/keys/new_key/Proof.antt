@@ -35,7 +35,7 @@ returns-2 : tie.Need-returns-2 Inv-loop μ-loop
 returns-2 c = walk-over (c .before .before .before .before .loop .inv) (c .before .before .before .if1 .left) (c .before .before .count .ensures) (c .enum-told .given .1)
 
 entry-at-requires : tie.Need-entry-at-requires Inv-loop μ-loop
-entry-at-requires c κs = let z = walked (c .before .before .before .before .before .loop .inv .chained) (c .before .before .before .before .if1 .left) in (z .some, z .inside, omega arith)
+entry-at-requires c κs = let z = walked (c .before .before .before .before .before .loop .inv .chained) (c .before .before .before .before .if1 .left) in (record { some = z .some; room = z .inside }, omega arith)
 
 same-key-requires : tie.Need-same-key-requires Inv-loop μ-loop
 same-key-requires c κs = search needs

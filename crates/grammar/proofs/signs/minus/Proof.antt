@@ -1,3 +1,4 @@
+use Rattle.grammar.proofs.Rounds.{rowed}
 use Rattle.grammar.proofs.Steps.{put-on, put-row}
 use Rattle.grammar.specs.Expressions.{minusP}
 use Rattle.reading.specs.Laws.Does.{by-make, yes-way, no-way}
@@ -45,6 +46,9 @@ returns-2 : tie.Need-returns-2
 unfolding minusP
 returns-2 c = record { does = λ G comps left. no-way (ne-eqb _ _ (c .before .before .before .before .before .before .before .before .if1 .left)) (yes-way (eq-eqb _ _ (c .before .before .before .before .before .before .if2 .taken)) (by-make (put-row (c .before .before .before .before .leaf-row2 .ensures) (c .before .before .before .before .before .minus-float .ensures) (c .before .before .put2 .ensures)))); onward = λ s h. put-on (c .before .before .put2 .ensures) h }
 
+row-requires : tie.Need-row-requires
+row-requires c κs = search needs
+
 put-requires-3 : tie.Need-put-requires-3
 put-requires-3 c κs = search needs
 
@@ -53,7 +57,7 @@ same-length-3 c = search needs
 
 returns-3 : tie.Need-returns-3
 unfolding minusP
-returns-3 c = record { does = λ G comps left. no-way (ne-eqb _ _ (c .before .before .before .before .before .before .if1 .left)) (no-way (ne-eqb _ _ (c .before .before .before .before .if2 .left)) (by-make (c .before .before .put3 .ensures))); onward = λ s h. put-on (c .before .before .put3 .ensures) h }
+returns-3 c = record { does = λ G comps left. no-way (ne-eqb _ _ (c .before .before .before .before .before .before .before .if1 .left)) (no-way (ne-eqb _ _ (c .before .before .before .before .before .if2 .left)) (by-make (rowed (c .before .before .before .before .row .ensures) (c .before .before .put3 .ensures)))); onward = λ s h. put-on (c .before .before .put3 .ensures) h }
 
 pub minus-spec : {M : Type 1} → statement M
 minus-spec =
@@ -69,6 +73,7 @@ minus-spec =
     put-requires-2
     same-length-2
     returns-2
+    row-requires
     put-requires-3
     same-length-3
     returns-3)

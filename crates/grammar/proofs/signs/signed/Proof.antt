@@ -1,3 +1,4 @@
+use Rattle.grammar.proofs.Rounds.{rowed}
 use Rattle.grammar.proofs.Steps.{put-on}
 use Rattle.grammar.specs.Expressions.{signP}
 use Rattle.reading.specs.Laws.Does.{by-make, yes-way, no-way}
@@ -12,6 +13,9 @@ use Rattle.grammar.proofs.signs.minus.Reads as minus-reads
 use Rattle.grammar.proofs.signs.plus.Reads as plus-reads
 use Rattle.records.proofs.pool.put.Reads as put-reads
 
+row-requires : tie.Need-row-requires
+row-requires c κs = search needs
+
 put-requires : tie.Need-put-requires
 put-requires c κs = search needs
 
@@ -20,7 +24,7 @@ same-length c = search needs
 
 returns : tie.Need-returns
 unfolding signP
-returns c = record { does = λ G comps left. yes-way (eq-eqb _ _ (c .before .before .before .before .if1 .taken)) (by-make (c .before .before .put .ensures)); onward = λ s h. put-on (c .before .before .put .ensures) h }
+returns c = record { does = λ G comps left. yes-way (eq-eqb _ _ (c .before .before .before .before .before .if1 .taken)) (by-make (rowed (c .before .before .before .before .row .ensures) (c .before .before .put .ensures))); onward = λ s h. put-on (c .before .before .put .ensures) h }
 
 minus-requires : tie.Need-minus-requires
 minus-requires c κs = search needs
@@ -43,6 +47,7 @@ pub signed-spec : {M : Type 1} → statement M
 signed-spec =
     tie.close
     (tie.spec
+    row-requires
     put-requires
     same-length
     returns

@@ -1,0 +1,23 @@
+-- `entry_at`: the item before, and the span that a field holds. Assumes nothing.
+use mathlib.Core.Path.{_≡_, ap, _∙_}
+use Rattle.records.specs.Words.{spanOf}
+use borrow.Author.Needs.{needs}
+use Rattle.grammar.proofs.keys.entry_at.Statement.{statement}
+use Rattle.grammar.proofs.keys.entry_at.Tie as tie
+
+before-of-requires : tie.Need-before-of-requires
+before-of-requires c κs = search needs
+
+held-of-requires : tie.Need-held-of-requires
+held-of-requires c κs = search needs
+
+of-requires : tie.Need-of-requires
+of-requires c κs = search needs
+
+returns : tie.Need-returns
+returns c =
+    let e = c .of .ensures ∙ ap spanOf (c .before .held-of .ensures) in
+    λ i. record { key = record { from = e i .start; to = e i .end }; before = c .before .before .before-of .ensures i }
+
+pub entry-at-spec : {M : Type 1} → statement M
+entry-at-spec = tie.close (tie.spec before-of-requires held-of-requires of-requires returns)

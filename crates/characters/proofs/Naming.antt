@@ -15,10 +15,11 @@ use Rattle.characters.specs.declared.refusal.Refusal.the-variants.{Expec
 use Rattle.characters.specs.declared.tokens.Must.{Must}
 use Rattle.characters.specs.declared.tokens.Must.the-variants.{Taken, Failed}
 use Rattle.characters.specs.Text.{Text, byteAt, ByteOf, onBy, past, Stands}
-use Rattle.characters.specs.PlaceLaws.{Reached, Advanced, onBy-stands, in-text}
-use Rattle.characters.specs.Names.{isLetter, isNameByte, along, nameBy, name, part, wordOf, freeBy, freeName, foldOf}
-use Rattle.characters.specs.NameLaws.{or-false, letter-is-name, name-byte-low, along-on, along-end, NamedOn, name-on}
-use Rattle.characters.proofs.Places.{byte-in}
+use Rattle.characters.specs.PlaceLaws.{in-text}
+use Rattle.characters.specs.Counts.{endOf}
+use Rattle.characters.specs.CountLaws.{end-inside}
+use Rattle.characters.specs.Names.{isLetter, isNameByte, nameBy, name, part, wordOf, freeBy, freeName, foldOf}
+use Rattle.characters.specs.NameLaws.{or-false, letter-is-name, name-byte-low, name-by-end, end-past-letter, NamedOn, name-on}
 
 -- ---- which bytes are a name's
 
@@ -46,39 +47,31 @@ digit-is b h k = rw (← letter-low b (omega arith), le-leb 48 b h, le-leb b 57 
 
 -- ---- a name
 
--- what is left of the name leads to its end
-pub record InName (s : Text) (at p : Place) : Type 0 where
-  pub same : along (drop (p .offset) s) p ≡ along (drop (at .offset) s) at
-  pub stands : Stands s p
+-- the first letter, by what a test of it answered
+letter-here : {s : Text} {o b : ℕ} {r : Bool} → ByteOf s o b → r ≡ isLetter b → not r ≡ false → isLetter (byteAt s o) ≡ true
+letter-here e l n = ap isLetter (sym (e .is)) ∙ sym l ∙ not-false _ n
 
-pub name-starts : {s : Text} {at q : Place} {b : ℕ} → Stands s at → ByteOf s (at .offset) b → isLetter b ≡ true → q ≡ onBy 1 at → InName s at q
-name-starts {s} {at} {q} {b} h e l z =
-    let n = letter-is-name b l in
-    let i = name-byte-low b n in
-    let o = byte-in e (omega arith) in
-    record {
-      same = ap (λ (x : Place). along (drop (x .offset) s) x) z ∙ sym (along-on s b at (e .is) n);
-      stands = subst⁻¹ (λ (x : Place). Reached s at x) z (onBy-stands s 1 at h (omega arith)) .stands;
-    }
+pub letter-inside : {s : Text} {o b : ℕ} {r : Bool} → ByteOf s o b → r ≡ isLetter b → not r ≡ false → o < length s
+letter-inside {s} {o} e l n = let i = name-byte-low (byteAt s o) (letter-is-name (byteAt s o) (letter-here e l n)) in in-text s o (omega arith)
 
-pub name-step : {s : Text} {at p q : Place} {b : ℕ} → InName s at p → ByteOf s (p .offset) b → isNameByte b ≡ true → q ≡ onBy 1 p → InName s at q
-name-step {s} {at} {p} {q} {b} v e n z =
-    let i = name-byte-low b n in
-    let o = byte-in e (omega arith) in
-    record {
-      same = ap (λ (x : Place). along (drop (x .offset) s) x) z ∙ sym (along-on s b p (e .is) n) ∙ v .same;
-      stands = subst⁻¹ (λ (x : Place). Reached s p x) z (onBy-stands s 1 p (v .stands) (omega arith)) .stands;
-    }
+-- so many bytes on is where a name's bytes end
+pub name-room : {s : Text} {at : Place} {b e : ℕ} {r : Bool} → Stands s at → ByteOf s (at .offset) b → r ≡ isLetter b → not r ≡ false → e ≡ endOf isNameByte s (at .offset + 1)
+    → (at .offset + (e - at .offset) < 2 ^ 32) × (at .column + (e - at .offset) < 2 ^ 32)
+name-room {s} {at} {b} {e} h f l n z =
+    let a = letter-inside f l n in
+    let i = end-inside isNameByte s (at .offset + 1) (omega arith) in
+    let j : length s < 2 ^ 31 = h .short in
+    let k : at .column ≤ at .offset + 1 = h .columns in
+    (omega arith, omega arith)
 
-pub name-ends : {s : Text} {at p : Place} {a b : ℕ} → ByteOf s (at .offset) a → isLetter a ≡ true → InName s at p → ByteOf s (p .offset) b → isNameByte b ≡ false → Taken at p ≡ name s at
+pub name-ends : {s : Text} {at q : Place} {b e : ℕ} {r : Bool} → ByteOf s (at .offset) b → r ≡ isLetter b → not r ≡ false → e ≡ endOf isNameByte s (at .offset + 1) → q ≡ onBy (e - at .offset) at → Taken at q ≡ name s at
+name-ends {s} {at} f l n z g =
+    let h = letter-here f l n in
+    ap (Taken at) (g ∙ ap (λ (o : ℕ). onBy (o - at .offset) at) (z ∙ sym (end-past-letter s (at .offset) h))) ∙ sym (name-by-end s at h)
+
+pub name-none : {s : Text} {at : Place} {b : ℕ} {r : Bool} → ByteOf s (at .offset) b → r ≡ isLetter b → not r ≡ true → Failed ExpectedIdentifier at ≡ name s at
 unfolding name
-name-ends {s} {at} {p} {a} {b} e l v f n =
-    ap (Taken at) (sym (along-end s b p (f .is) n) ∙ v .same)
-    ∙ ap (λ (t : Bool). nameBy t (drop (at .offset) s) at) (sym l ∙ ap isLetter (e .is))
-
-pub name-none : {s : Text} {at : Place} {a : ℕ} → ByteOf s (at .offset) a → isLetter a ≡ false → Failed ExpectedIdentifier at ≡ name s at
-unfolding name
-name-none {s} {at} {a} e l = ap (λ (t : Bool). nameBy t (drop (at .offset) s) at) (sym l ∙ ap isLetter (e .is))
+name-none {s} {at} e l n = ap (λ (t : Bool). nameBy t (drop (at .offset) s) at) (sym (sym l ∙ not-true _ n) ∙ ap isLetter (e .is))
 
 -- ---- bytes as one number
 

@@ -1,11 +1,13 @@
 pub mod Text
 pub mod Refusals
 pub mod Utf8
+pub mod Counts
 pub mod Blanks
 pub mod Names
 pub mod Words
 pub mod Tokens
 pub mod PlaceLaws
+pub mod CountLaws
 pub mod Utf8Laws
 pub mod Utf8Lead
 pub mod BlankLaws

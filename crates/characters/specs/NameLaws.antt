@@ -14,9 +14,11 @@ use Rattle.characters.specs.declared.refusal.Refusal.the-variants.{Expec
 use Rattle.characters.specs.declared.tokens.Must.{Must}
 use Rattle.characters.specs.declared.tokens.Must.the-variants.{Taken, Failed}
 use Rattle.characters.specs.Text.{Text, byteAt, onBy, past, Stands}
-use Rattle.characters.specs.PlaceLaws.{Reached, Advanced, reached-here, reached-on, advanced-on, advanced-reached, in-text, at-end, from-byte, from-end, front, past-low, past-offset, past-stands, onBy-onBy}
+use Rattle.characters.specs.PlaceLaws.{Reached, Advanced, reached-here, reached-on, advanced-on, advanced-reached, in-text, at-end, from-byte, from-end, front, past-low, past-offset, past-stands, onBy-none, onBy-onBy}
+use Rattle.characters.specs.Counts.{countOf, endOf}
+use Rattle.characters.specs.CountLaws.{In, count-yes, count-no, count-none, run-over}
 use Rattle.characters.specs.BlankLaws.{rest}
-use Rattle.characters.specs.Names.{isDigit, isLetter, isNameByte, along, run, nameBy, name, part, same, reserved, numbered, wordOf}
+use Rattle.characters.specs.Names.{isDigit, isSmall, isLetter, isNameByte, along, run, nameBy, name, part, same, reserved, numbered, wordOf}
 use Rattle.characters.specs.Tokens.{spells, isKeyword}
 
 -- ---- the bytes of a name
@@ -27,6 +29,9 @@ or-false false = refl
 
 pub letter-is-name : (b : ℕ) → isLetter b ≡ true → isNameByte b ≡ true
 letter-is-name b e = rw e refl
+
+small-is-name : (b : ℕ) → isSmall b ≡ true → isNameByte b ≡ true
+small-is-name b e = rw e refl
 
 -- what is too low or too high for a name
 pub low-is-none : (b : ℕ) → b < 48 → isNameByte b ≡ false
@@ -60,22 +65,39 @@ along-no b l p e = rw (e, along) refl
 pub past-name : (b : ℕ) (p : Place) → isNameByte b ≡ true → past b p ≡ onBy 1 p
 past-name b p e = let l = name-byte-low b e in past-low b p (λ z. omega arith) (omega arith)
 
-pub along-on : (s : Text) (b : ℕ) (p : Place) → b ≡ byteAt s (p .offset) → isNameByte b ≡ true → along (drop (p .offset) s) p ≡ along (drop (p .offset + 1) s) (onBy 1 p)
-along-on s b p e h =
-    let l = name-byte-low b h in
-    ap (λ (x : Text). along x p) (from-byte s (p .offset) b e (omega arith))
-    ∙ along-yes b (drop (p .offset + 1) s) p h
-    ∙ ap (along (drop (p .offset + 1) s)) (past-name b p h)
+-- over small letters, along the bytes of a name
+pub small-over : {s : Text} {from i e : ℕ} → In isNameByte s from i → e ≡ endOf isSmall s i → In isNameByte s from e
+small-over {s} v w = run-over isNameByte isSmall s small-is-name v w
 
-pub along-end : (s : Text) (b : ℕ) (p : Place) → b ≡ byteAt s (p .offset) → isNameByte b ≡ false → along (drop (p .offset) s) p ≡ p
+-- each byte of a name is a character
+along-count : (l : Text) (p : Place) → along l p ≡ onBy (countOf isNameByte l) p
 unfolding along
-along-end s b p e h = go (ltb (p .offset) (length s)) refl
+along-count [] p = sym (onBy-none p) ∙ ap (λ (n : ℕ). onBy n p) (sym (count-none isNameByte))
+along-count (b ∷ l) p = go (isNameByte b) refl (along-count l (onBy 1 p))
   where
-    go : (t : Bool) → ltb (p .offset) (length s) ≡ t → along (drop (p .offset) s) p ≡ p
-    go true t =
-        ap (λ (x : Text). along x p) (lib.Seq.drop-cons s (p .offset) 256 (ltb-true (p .offset) (length s) t))
-        ∙ along-no (byteAt s (p .offset)) (drop (suc (p .offset)) s) p (ap isNameByte (sym e) ∙ h)
-    go false t = ap (λ (x : Text). along x p) (from-end s (p .offset) (ltb-false (p .offset) (length s) t))
+    go : (t : Bool) → isNameByte b ≡ t → along l (onBy 1 p) ≡ onBy (countOf isNameByte l) (onBy 1 p) → along (b ∷ l) p ≡ onBy (countOf isNameByte (b ∷ l)) p
+    go true e i =
+        along-yes b l p e
+        ∙ ap (along l) (past-name b p e)
+        ∙ i
+        ∙ onBy-onBy 1 (countOf isNameByte l) p
+        ∙ ap (λ (n : ℕ). onBy n p) (let z = count-yes isNameByte b l e in let y : 1 + countOf isNameByte l ≡ countOf isNameByte (b ∷ l) = omega arith in y)
+    go false e i = along-no b l p e ∙ sym (onBy-none p) ∙ ap (λ (n : ℕ). onBy n p) (sym (count-no isNameByte b l e))
+
+-- a name by the offset where its bytes end
+pub name-by-end : (s : Text) (p : Place) → isLetter (byteAt s (p .offset)) ≡ true → name s p ≡ Taken p (onBy (endOf isNameByte s (p .offset) - p .offset) p)
+unfolding name
+name-by-end s p h =
+    ap (λ (t : Bool). nameBy t (drop (p .offset) s) p) h
+    ∙ ap (Taken p) (along-count (drop (p .offset) s) p ∙ ap (λ (n : ℕ). onBy n p) (let z : countOf isNameByte (drop (p .offset) s) ≡ endOf isNameByte s (p .offset) - p .offset = omega arith in z))
+
+-- which end is looked for past its first letter
+pub end-past-letter : (s : Text) (o : ℕ) → isLetter (byteAt s o) ≡ true → endOf isNameByte s o ≡ endOf isNameByte s (o + 1)
+end-past-letter s o h =
+    let n = letter-is-name (byteAt s o) h in
+    let i = name-byte-low (byteAt s o) n in
+    let z : countOf isNameByte (drop o s) ≡ suc (countOf isNameByte (drop (o + 1) s)) = ap (countOf isNameByte) (from-byte s o (byteAt s o) refl (omega arith)) ∙ count-yes isNameByte (byteAt s o) (drop (o + 1) s) n in
+    omega arith
 
 module _ (s : Text) where
   -- the name's end, and the bytes passed on the way

@@ -13,9 +13,13 @@ use Rattle.characters.specs.Text.{Text, byteAt, ascii, past}
 abbrev pub isDigit : ℕ → Bool
 isDigit b = leb 48 b && leb b 57
 
+-- a small letter: what most bytes of names are
+abbrev pub isSmall : ℕ → Bool
+isSmall b = leb 97 b && leb b 122
+
 -- a letter or `_`: what a name begins with
 abbrev pub isLetter : ℕ → Bool
-isLetter b = (leb 97 b && leb b 122) || (leb 65 b && leb b 90) || eqb b 95
+isLetter b = isSmall b || (leb 65 b && leb b 90) || eqb b 95
 
 -- "a letter, digit or `_`": what a name goes on with, and what no keyword is followed by
 abbrev pub isNameByte : ℕ → Bool

@@ -4,11 +4,12 @@ use crate::place::byte;
 use crate::refusal::Refusal;
 use crate::tokens::Must;
 ghost use mathlib.Core.Path.{_≡_};
-ghost use Prim.Native.Nat.{_+_, _≤_, _<_};
+ghost use Prim.Native.Nat.{_+_, _≤_, _<_, _^_};
 ghost use lib.ListN.{getD, length};
 ghost use Rattle.characters.specs.Text.{Stands};
+ghost use Rattle.characters.specs.Counts.{endOf};
 ghost use Rattle.characters.specs.Words.{heads, rests, slots};
-ghost use Rattle.characters.specs.Names.{foldOf, freeName, isLetter, isNameByte, name, part, wordOf};
+ghost use Rattle.characters.specs.Names.{foldOf, freeName, isLetter, isNameByte, isSmall, name, part, wordOf};
 
 // A letter or `_`.
 pub fn is_letter(b: u32) -> bool
@@ -48,6 +49,67 @@ pub fn is_name_byte(b: u32) -> bool
     b == 95
 }
 
+// A small letter.
+fn is_small(b: u8) -> bool
+    ensures { λ r. ⌜ r ≡ isSmall b ⌝ }
+{
+    if b < 97 {
+        return false;
+    }
+    b <= 122
+}
+
+// Where the small letters from `from` on end: one test of a range for a byte, and four bytes a turn.
+fn small_end(text: &[u8], from: usize) -> usize
+    requires { ⌜ (from ≤ length (now text)) × (length (now text) < 2 ^ 31) ⌝ }
+    ensures { λ r. ⌜ r ≡ endOf isSmall (now (text .entry)) from ⌝ }
+{
+    let n = text.len();
+    let mut i = from;
+    while i + 4 <= n {
+        if !is_small(text[i]) {
+            return i;
+        }
+        if !is_small(text[i + 1]) {
+            return i + 1;
+        }
+        if !is_small(text[i + 2]) {
+            return i + 2;
+        }
+        if !is_small(text[i + 3]) {
+            return i + 3;
+        }
+        i += 4;
+    }
+    while i < n {
+        if !is_small(text[i]) {
+            return i;
+        }
+        i += 1;
+    }
+    i
+}
+
+// Where the bytes of a name from `from` on end: mostly small letters, and the others between them.
+pub fn name_end(text: &[u8], from: u32) -> u32
+    requires { ⌜ (from ≤ length (now text)) × (length (now text) < 2 ^ 31) ⌝ }
+    ensures { λ r. ⌜ r ≡ endOf isNameByte (now (text .entry)) from ⌝ }
+{
+    let n = text.len();
+    let mut i = from as usize;
+    loop {
+        i = small_end(text, i);
+        if n <= i {
+            return i as u32;
+        }
+        let b = text[i] as u32;
+        if !is_name_byte(b) {
+            return i as u32;
+        }
+        i += 1;
+    }
+}
+
 // The name at `at`, with no blanks before it, or 11.
 pub fn name(text: &[u8], at: Place) -> Must
     requires { ⌜ Stands (now text) at ⌝ }
@@ -60,14 +122,11 @@ pub fn name(text: &[u8], at: Place) -> Must
             at,
         };
     }
-    let mut p = at.on(1);
-    loop {
-        let c = byte(text, p.offset);
-        if !is_name_byte(c) {
-            return Must::Taken { here: at, next: p };
-        }
-        p = p.on(1);
-    }
+    let after = at.offset + 1;
+    let end = name_end(text, after);
+    let n = end - at.offset;
+    let next = at.on(n);
+    Must::Taken { here: at, next }
 }
 
 // The name at `at`, or 11, or 12 where it is a reserved word.

@@ -12,7 +12,9 @@ use lib.Seq.{drop-cons, drop-drop, getD-drop, length-take-le, take-suc}
 use borrow.Author.Tests.{leb-true, ltb-true, eqb-true, eqb-false}
 use Rattle.characters.specs.declared.utf8.Lead.{Lead}
 use Rattle.characters.specs.declared.place.Place.{Place}
-use Rattle.characters.specs.Text.{Text, past, start, Stands}
+use Rattle.characters.specs.Text.{Text, isAscii, past, start, Stands}
+use Rattle.characters.specs.Counts.{endOf}
+use Rattle.characters.specs.CountLaws.{by-run}
 use Rattle.characters.specs.Utf8.{Range, _to_, Row, tail, table, inside, fits, sequenceOf, prefixOf, placeAfter, mark, bits, valueOf, charBy, charOf}
 use Rattle.characters.specs.Utf8Laws.{every, every-row, never, inside-low, inside-high, fits-length, within, leads-ascend, opens, openedIn, opened-yes, opened-no, kept, row-by-lead, sequence-end, sequence-row, sequence-length, prefix-none, prefix-step, place-stands}
 use Rattle.characters.specs.Utf8Lead.{keep, leadOf, afterBy, widthIf, followedBy}
@@ -245,11 +247,12 @@ answers-more s at n v e =
     let l : sequenceOf (drop at s) ≤ length (drop at s) = sequence-length (drop at s) in
     record { within = omega (arith, length-drop at s); whole = omega arith }
 
+-- past ASCII bytes, each a character
+pub answers-ascii : {s : Text} {at e : ℕ} → Answers s at → e ≡ endOf isAscii s at → Answers s e
+answers-ascii {s} {at} v z = subst⁻¹ (Answers s) z (by-run isAscii s (Answers s) (λ i h t w. answers-more s i 1 w (sequence-ascii s i h (ltb-true (getD s i 0) 128 t))) at v)
+
 pub answers-stop : (s : Text) (at n : ℕ) → Answers s at → n ≡ sequenceOf (drop at s) → n ≡ 0 → at ≡ prefixOf s
 answers-stop s at n v e z = let y : at + prefixOf (drop at s) ≡ prefixOf s = v .whole in let k : prefixOf (drop at s) ≡ 0 = prefix-none (drop at s) (sym e ∙ z) in omega arith
-
-pub answers-end : (s : Text) (at : ℕ) → Answers s at → length s ≤ at → at ≡ prefixOf s
-answers-end s at v h = answers-stop s at 0 v (sequence-past s at h) refl
 
 -- ---- the place after so many bytes
 

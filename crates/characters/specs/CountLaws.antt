@@ -1,13 +1,14 @@
 -- Laws of runs of bytes: one byte leads to the next, a narrow class lies in a wider one. They serve a loop over any class, however many bytes a
 -- turn of it looks at. Assumes nothing.
-use mathlib.Core.Path.{_≡_, refl, sym, ap, _∙_}
+use mathlib.Core.Path.{_≡_, refl, sym, ap, subst, _∙_}
 use mathlib.Core.Bool.{Bool, true, false, not}
 use mathlib.Core.List.{[], _∷_}
 use Prim.Native.Nat.{ℕ, zero, suc, _+_, _≤_, _<_}
 use native.Mathlib.Omega.{arith}
+use lib.Dec.{ltb}
 use lib.ListN.{length, getD, drop, drop-of-length-le, length-drop}
 use lib.Seq.{drop-cons, drop-drop}
-use borrow.Author.Tests.{not-true, not-false}
+use borrow.Author.Tests.{ltb-true, ltb-false, not-true, not-false}
 use Rattle.characters.specs.Text.{Text}
 use Rattle.characters.specs.Counts.{countOf, endOf}
 
@@ -63,6 +64,11 @@ module _ (f : ℕ → Bool) (s : Text) where
       let g : from ≤ i = v .begun in
       record { same = rw b (omega arith); begun = omega arith; inside = omega arith }
 
+  -- so many bytes at once
+  pub run-many : {from i : ℕ} (n : ℕ) → In from i → i + n ≤ length s → ((k : ℕ) → k < n → f (getD s (i + k) 0) ≡ true) → In from (i + n)
+  run-many {from} {i} zero v h all = subst (In from) (let z : i ≡ i + 0 = omega arith in z) v
+  run-many {from} {i} (suc n) v h all = run-on (i + suc n) (run-many n v (omega arith) (λ k l. all k (omega arith))) (sym (all n (omega arith))) refl (omega arith) (omega arith)
+
   pub run-ends : {from i : ℕ} {r : Bool} (j : ℕ) → In from i → r ≡ f (getD s i 0) → not r ≡ true → j ≡ i → i < length s → j ≡ endOf f s from
   run-ends {from} {i} j v t n e h =
       let a : countOf f (drop i s) ≡ 0 = ap (countOf f) (drop-cons s i 0 h) ∙ count-no f (getD s i 0) (drop (suc i) s) (sym t ∙ not-true _ n) in
@@ -74,6 +80,27 @@ module _ (f : ℕ → Bool) (s : Text) where
       let a : countOf f (drop i s) ≡ 0 = ap (countOf f) (drop-of-length-le s h) ∙ count-none f in
       let w = v .same in
       omega arith
+
+  -- what holds where a run begins, and past a byte of it if it holds before, holds where the run ends
+  module _ (P : ℕ → Type 0) (step : (i : ℕ) → i < length s → f (getD s i 0) ≡ true → P i → P (i + 1)) where
+    stay : (o : ℕ) → countOf f (drop o s) ≡ 0 → P o → P (endOf f s o)
+    stay o z p = subst P (let e : o ≡ endOf f s o = omega arith in e) p
+
+    go-along : (k o : ℕ) → length s ≤ o + k → P o → P (endOf f s o)
+    go-along zero o h p = let l : length s ≤ o = omega arith in stay o (ap (countOf f) (drop-of-length-le s l) ∙ count-none f) p
+    go-along (suc k) o h p = by (ltb o (length s)) refl (f (getD s o 0)) refl (go-along k (o + 1) (omega arith))
+      where
+        by : (t : Bool) → ltb o (length s) ≡ t → (u : Bool) → f (getD s o 0) ≡ u → (P (o + 1) → P (endOf f s (o + 1))) → P (endOf f s o)
+        by false t u e later = stay o (ap (countOf f) (drop-of-length-le s (ltb-false o (length s) t)) ∙ count-none f) p
+        by true t false e later = stay o (ap (countOf f) (drop-cons s o 0 (ltb-true o (length s) t)) ∙ count-no f (getD s o 0) (drop (suc o) s) e) p
+        by true t true e later =
+            let l : o < length s = ltb-true o (length s) t in
+            let a : countOf f (drop o s) ≡ suc (countOf f (drop (suc o) s)) = ap (countOf f) (drop-cons s o 0 l) ∙ count-yes f (getD s o 0) (drop (suc o) s) e in
+            let b : countOf f (drop (suc o) s) ≡ countOf f (drop (o + 1) s) = ap (λ (i : ℕ). countOf f (drop i s)) (let z : suc o ≡ o + 1 = omega arith in z) in
+            subst P (let z : endOf f s (o + 1) ≡ endOf f s o = omega arith in z) (later (step o l e p))
+
+    pub by-run : (o : ℕ) → P o → P (endOf f s o)
+    by-run o p = go-along (length s) o (omega arith) p
 
 -- to the end of a run of a narrower class
 pub run-over : (f g : ℕ → Bool) (s : Text) → ((b : ℕ) → g b ≡ true → f b ≡ true) → {from i e : ℕ} → In f s from i → e ≡ endOf g s i → In f s from e

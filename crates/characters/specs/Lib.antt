@@ -2,12 +2,14 @@ pub mod Text
 pub mod Refusals
 pub mod Utf8
 pub mod Counts
+pub mod Eights
 pub mod Blanks
 pub mod Names
 pub mod Words
 pub mod Tokens
 pub mod PlaceLaws
 pub mod CountLaws
+pub mod EightLaws
 pub mod Utf8Laws
 pub mod Utf8Lead
 pub mod BlankLaws

@@ -30,6 +30,10 @@ ascii (String._∷_ c s) = code c ∷ ascii s
 abbrev pub start : Place
 start = record { offset = 0; line = 1; column = 1 }
 
+-- a byte below 80 is a character of its own
+abbrev pub isAscii : ℕ → Bool
+isAscii b = ltb b 128
+
 -- the bytes 80 to BF go on with a character that began before them (RFC 3629, `UTF8-tail`)
 abbrev pub isTail : ℕ → Bool
 isTail b = leb 128 b && ltb b 192

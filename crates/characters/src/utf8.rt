@@ -1,4 +1,5 @@
 // UTF-8 by RFC 3629: the well-formed prefix of a text, and the character at an offset.
+use crate::eights::ascii_end;
 use crate::place::Place;
 ghost use mathlib.Core.Path.{_≡_};
 ghost use Prim.Native.Nat.{_+_, _-_, _*_, _<_, _≤_, _^_};
@@ -82,23 +83,19 @@ pub fn sequence(text: &[u8], at: usize) -> usize
     follow(text, at, opened(b))
 }
 
-// The length of the well-formed prefix. One pass, and one comparison for an ASCII byte.
+// The length of the well-formed prefix. One pass, eight bytes a look where all are ASCII.
 pub fn prefix(text: &[u8]) -> usize
     ensures { λ r. ⌜ r ≡ prefixOf (now (text .entry)) ⌝ }
 {
     let mut at: usize = 0;
-    while at < text.len() {
-        if text[at] < 0x80 {
-            at += 1;
-        } else {
-            let width = sequence(text, at);
-            if width == 0 {
-                return at;
-            }
-            at += width;
+    loop {
+        at = ascii_end(text, at);
+        let width = sequence(text, at);
+        if width == 0 {
+            return at;
         }
+        at += width;
     }
-    at
 }
 
 // Whether the whole text is well-formed.

@@ -1,10 +1,15 @@
 -- `prefix` adds up characters: the length passed, and the prefix of what is left, are the prefix of the text. Assumes nothing.
 use Prim.Native.Nat.{_-_}
 use lib.ListN.{length}
+use native.Mathlib.Omega.{arith}
+use Rattle.characters.proofs.Utf8Steps.{Answers, answers-start, answers-ascii, answers-more, answers-stop}
 use borrow.Author.Needs.{needs}
-use Rattle.characters.proofs.Utf8Steps.{sequence-ascii, Answers, answers-start, answers-more, answers-stop, answers-end}
 use Rattle.characters.proofs.utf8.prefix.Statement.{statement}
 use Rattle.characters.proofs.utf8.prefix.Tie as tie
+use Rattle.characters.proofs.utf8.prefix.Reads as reads
+use Rattle.characters.proofs.utf8.prefix.Lts as lts
+use Rattle.characters.proofs.eights.ascii_end.Reads as ascii-end-reads
+use Rattle.characters.proofs.utf8.sequence.Reads as sequence-reads
 
 abbrev Inv-loop : tie.InvT-loop
 Inv-loop text at₀ at = Answers text at
@@ -15,35 +20,23 @@ abbrev μ-loop : tie.MeasureT-loop
 loop-holds : tie.Need-loop-holds Inv-loop μ-loop
 loop-holds c = answers-start _
 
-shared-slice-read-if1 : tie.Need-shared-slice-read-if1 Inv-loop μ-loop
-shared-slice-read-if1 c = search needs
-
-add-at : tie.Need-add-at Inv-loop μ-loop
-add-at c = search needs
-
-loop-less : tie.Need-loop-less Inv-loop μ-loop
-loop-less c = search needs
-
-loop-again : tie.Need-loop-again Inv-loop μ-loop
-loop-again c = answers-more (c .before .before .before .before .before .args .text .now) (c .before .before .before .loop .at) 1 (c .before .before .before .loop .inv) (sequence-ascii (c .before .before .before .before .before .args .text .now) (c .before .before .before .loop .at) (c .before .before .loop-test .taken) (c .if1 .taken))
+ascii-end-requires : tie.Need-ascii-end-requires Inv-loop μ-loop
+ascii-end-requires c κs = c .loop .inv .within
 
 sequence-requires : tie.Need-sequence-requires Inv-loop μ-loop
 sequence-requires c κs = search needs
 
 returns : tie.Need-returns Inv-loop μ-loop
-returns c = answers-stop (c .before .before .before .before .before .before .before .args .text .now) (c .before .before .before .before .before .loop .at) (c .before .sequence .result) (c .before .before .before .before .before .loop .inv) (c .before .sequence .ensures) (c .if2 .taken)
+returns c = answers-stop (c .before .before .before .before .before .args .text .now) (c .before .before .ascii-end .result) (c .before .sequence .result) (answers-ascii (c .before .before .before .loop .inv) (c .before .before .ascii-end .ensures)) (c .before .sequence .ensures) (c .if1 .taken)
 
-add-at-2 : tie.Need-add-at-2 Inv-loop μ-loop
-add-at-2 c = let v = answers-more (c .before .before .before .before .before .before .before .args .text .now) (c .before .before .before .before .before .loop .at) (c .before .sequence .result) (c .before .before .before .before .before .loop .inv) (c .before .sequence .ensures) in search needs
+add-at : tie.Need-add-at Inv-loop μ-loop
+add-at c = let v = answers-more (c .before .before .before .before .before .args .text .now) (c .before .before .ascii-end .result) (c .before .sequence .result) (answers-ascii (c .before .before .before .loop .inv) (c .before .before .ascii-end .ensures)) (c .before .sequence .ensures) .within in search needs
 
-loop-less-2 : tie.Need-loop-less-2 Inv-loop μ-loop
-loop-less-2 c = search needs
+loop-less : tie.Need-loop-less Inv-loop μ-loop
+loop-less c = let v = answers-more (c .before .before .before .before .before .args .text .now) (c .before .before .ascii-end .result) (c .before .sequence .result) (answers-ascii (c .before .before .before .loop .inv) (c .before .before .ascii-end .ensures)) (c .before .sequence .ensures) .within in omega arith
 
-loop-again-2 : tie.Need-loop-again-2 Inv-loop μ-loop
-loop-again-2 c = answers-more (c .before .before .before .before .before .before .before .args .text .now) (c .before .before .before .before .before .loop .at) (c .before .sequence .result) (c .before .before .before .before .before .loop .inv) (c .before .sequence .ensures)
-
-returns-2 : tie.Need-returns-2 Inv-loop μ-loop
-returns-2 c = answers-end (c .before .before .before .args .text .now) (c .before .loop .at) (c .before .loop .inv) (c .loop-test .left)
+loop-again : tie.Need-loop-again Inv-loop μ-loop
+loop-again c = answers-more (c .before .before .before .before .before .args .text .now) (c .before .before .ascii-end .result) (c .before .sequence .result) (answers-ascii (c .before .before .before .loop .inv) (c .before .before .ascii-end .ensures)) (c .before .sequence .ensures)
 
 pub prefix-spec : {M : Type 1} → statement M
 prefix-spec =
@@ -52,13 +45,9 @@ prefix-spec =
     Inv-loop
     μ-loop
     loop-holds
-    shared-slice-read-if1
-    add-at
-    loop-less
-    loop-again
+    ascii-end-requires
     sequence-requires
     returns
-    add-at-2
-    loop-less-2
-    loop-again-2
-    returns-2)
+    add-at
+    loop-less
+    loop-again)

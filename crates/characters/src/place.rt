@@ -1,4 +1,4 @@
-// Places in a text, by value, and the steps from one to the next.
+// Places in a text, by value, the steps from one to the next, and spans.
 ghost use mathlib.Core.Path.{_≡_};
 ghost use Prim.Native.Nat.{_+_, _<_, _≤_, _^_};
 ghost use Rattle.characters.specs.Text.{ByteOf, Stands, lineOn, next, onBy, past, start};
@@ -8,6 +8,12 @@ pub struct Place {
     pub offset: u32,
     pub line: u32,
     pub column: u32,
+}
+
+// A span of a text: the offset of its first byte, and the offset after its last.
+pub struct Span {
+    pub from: u32,
+    pub to: u32,
 }
 
 impl Place {

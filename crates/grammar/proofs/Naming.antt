@@ -11,7 +11,7 @@ use lib.Seq.{drop-cons}
 use borrow.Author.Tests.{eq-eqb, ne-eqb}
 use Rattle.characters.specs.Text.{Text}
 use Rattle.characters.specs.Names.{part, same}
-use Rattle.literals.specs.declared.strings.Span.{Span}
+use Rattle.characters.specs.declared.place.Span.{Span}
 use Rattle.grammar.specs.Functions.{sameName}
 
 -- what is left to compare decides the whole

@@ -8,6 +8,7 @@ use lib.Dec.{eqb}
 use lib.ListN.{length}
 use borrow.Author.Tests.{le-leb, lt-leb}
 use Rattle.characters.specs.declared.place.Place.{Place}
+use Rattle.characters.specs.declared.place.Span.{Span}
 use Rattle.characters.specs.declared.refusal.Refusal.{Refusal}
 use Rattle.characters.specs.declared.refusal.Refusal.the-variants.{ReservedWord, TooManyArguments}
 use Rattle.characters.specs.declared.tokens.Look.{Look}
@@ -18,7 +19,6 @@ use Rattle.characters.specs.Text.{Text, Stands}
 use Rattle.characters.specs.Names.{name, part, wordOf, freeBy, freeName}
 use Rattle.characters.specs.NameLaws.{NamedOn, name-on}
 use Rattle.characters.specs.PlaceLaws.{Reached, Advanced, reached-on, advanced-on, advanced-reached}
-use Rattle.literals.specs.declared.strings.Span.{Span}
 use Rattle.reading.specs.declared.node.Node.{Node}
 use Rattle.reading.specs.declared.tally.Tally.{Tally}
 use Rattle.reading.specs.declared.answer.Out.{Out}

@@ -4,10 +4,10 @@ use mathlib.Core.List.{List, []}
 use Prim.Native.Nat.{ℕ, zero, suc}
 use lib.Dec.{eqb}
 use Rattle.characters.specs.declared.place.Place.{Place}
+use Rattle.characters.specs.declared.place.Span.{Span}
 use Rattle.characters.specs.declared.refusal.Refusal.the-variants.{InitWithoutParameter}
 use Rattle.characters.specs.Text.{Text, ascii}
 use Rattle.characters.specs.Names.{name, part, same}
-use Rattle.literals.specs.declared.strings.Span.{Span}
 use Rattle.reading.specs.declared.node.Node.{Node}
 use Rattle.reading.specs.Process.{done, stop, spent, make, fresh, call, test, look, must, bind, plain}
 use Rattle.records.specs.declared.kind.Kind.the-variants as kinds

@@ -5,12 +5,12 @@ use Prim.Native.Nat.{ℕ, zero, suc, _+_, _-_, _*_, _%_}
 use lib.Dec.{leb, ltb, eqb}
 use lib.ListN.{length}
 use Rattle.characters.specs.declared.place.Place.{Place}
+use Rattle.characters.specs.declared.place.Span.{Span}
 use Rattle.characters.specs.declared.tokens.Must.{Must}
 use Rattle.characters.specs.declared.tokens.Must.the-variants.{Taken, Failed}
 use Rattle.characters.specs.declared.refusal.Refusal.the-variants.{UnknownAtom, UnaryPlus, AssignmentAsExpression, Duplicate, TooManyArguments}
 use Rattle.characters.specs.Text.{Text, ascii}
 use Rattle.characters.specs.Tokens.{token, expected}
-use Rattle.literals.specs.declared.strings.Span.{Span}
 use Rattle.literals.specs.Strings.{sameKey}
 use Rattle.reading.specs.declared.node.Node.{Node}
 use Rattle.reading.specs.Entry.{nowhere}

@@ -4,13 +4,13 @@ use mathlib.Core.List.{List, [], _∷_}
 use Prim.Native.Nat.{ℕ, zero, suc, _+_}
 use lib.Dec.{leb}
 use Rattle.characters.specs.declared.place.Place.{Place}
+use Rattle.characters.specs.declared.place.Span.{Span}
 use Rattle.characters.specs.declared.refusal.Refusal.the-variants.{Duplicate, TooManyArguments}
 use Rattle.characters.specs.declared.tokens.Must.{Must}
 use Rattle.characters.specs.declared.tokens.Must.the-variants.{Taken, Failed}
 use Rattle.characters.specs.Text.{Text, ascii, onBy}
 use Rattle.characters.specs.Names.{freeName, part, same}
 use Rattle.characters.specs.Tokens.{token, expected}
-use Rattle.literals.specs.declared.strings.Span.{Span}
 use Rattle.reading.specs.declared.node.Node.{Node}
 use Rattle.reading.specs.Entry.{nowhere}
 use Rattle.reading.specs.Process.{done, stop, spent, make, compare, fresh, call, test, look, must, bind}

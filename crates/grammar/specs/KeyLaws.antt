@@ -9,10 +9,10 @@ use lib.Dec.{ltb}
 use lib.ListN.{length, getD}
 use borrow.Author.Tests.{ltb-true, ltb-false}
 use Rattle.characters.specs.declared.place.Place.{Place}
+use Rattle.characters.specs.declared.place.Span.{Span}
 use Rattle.characters.specs.declared.refusal.Refusal.{Refusal}
 use Rattle.characters.specs.declared.refusal.Refusal.the-variants.{PoolFull, Duplicate}
 use Rattle.characters.specs.Text.{Text}
-use Rattle.literals.specs.declared.strings.Span.{Span}
 use Rattle.reading.specs.declared.node.Node.{Node}
 use Rattle.reading.specs.declared.tally.Tally.{Tally}
 use Rattle.reading.specs.declared.answer.Out.{Out}

@@ -6,8 +6,8 @@ use mathlib.Core.Bool.{Bool}
 use Prim.Native.Nat.{ℕ, zero, suc, _*_, _≤_, _<_}
 use lib.ListN.{length}
 use Rattle.characters.specs.declared.place.Place.{Place}
+use Rattle.characters.specs.declared.place.Span.{Span}
 use Rattle.characters.specs.Text.{Text}
-use Rattle.literals.specs.declared.strings.Span.{Span}
 use Rattle.literals.specs.Strings.{sameKey}
 use Rattle.reading.specs.declared.tally.Tally.{Tally}
 use Rattle.reading.specs.declared.answer.Out.{Out}
@@ -47,8 +47,7 @@ pub record Packs (k : Span) : Type 0 where
 
 -- What the chain goes by: an item's key, which this field holds, and the item before it.
 abbrev pub entryAt : ℕ → List ℕ → ℕ → Entry
-entryAt field pool item =
-    record { key = record { from = spanOf (heldAt pool item field) .start; to = spanOf (heldAt pool item field) .end }; before = beforeAt pool item }
+entryAt field pool item = record { key = spanOf (heldAt pool item field); before = beforeAt pool item }
 
 abbrev pub entryOf : Naming → List ℕ → ℕ → Entry
 entryOf nm pool item = entryAt (held nm) pool item

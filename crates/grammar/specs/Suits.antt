@@ -7,11 +7,11 @@ use Prim.Native.Nat.{ℕ, zero, suc, _+_, _-_, _≤_, _<_, _*_}
 use native.Mathlib.Omega.{arith}
 use lib.ListN.{length}
 use Rattle.characters.specs.declared.place.Place.{Place}
+use Rattle.characters.specs.declared.place.Span.{Span}
 use Rattle.characters.specs.Text.{Text, ascii, Stands, start as first}
 use Rattle.characters.specs.PlaceLaws.{Reached, Advanced, reached-here, reached-on, advanced-on, advanced-reached}
 use Rattle.characters.specs.Tokens.{token, expected}
 use Rattle.characters.specs.TokenLaws.{TokenOn, token-on}
-use Rattle.literals.specs.declared.strings.Span.{Span}
 use Rattle.reading.specs.declared.node.Node.{Node}
 use Rattle.reading.specs.Events.{Rec, Earlier, recordsOf, start}
 use Rattle.reading.specs.Limits.{Limits, cut}

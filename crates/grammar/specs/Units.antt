@@ -1,16 +1,16 @@
 -- The rules of the unit, each headed by its production, and the entries: what a call answers to every text and limits. Assumes nothing.
 use mathlib.Core.Bool.{Bool, true, false, _&&_}
 use mathlib.Core.List.{List, [], _∷_}
-use Prim.Native.Nat.{ℕ, zero, suc, _+_, _/_, _%_}
+use Prim.Native.Nat.{ℕ, zero, suc, _+_}
 use lib.Dec.{leb, eqb}
 use lib.ListN.{length}
 use Rattle.characters.specs.declared.place.Place.{Place}
+use Rattle.characters.specs.declared.place.Span.{Span}
 use Rattle.characters.specs.declared.refusal.Refusal.the-variants.{LeadingFrom}
 use Rattle.characters.specs.Text.{Text, ascii, start}
 use Rattle.characters.specs.Blanks.{fileStart}
 use Rattle.characters.specs.Tokens.{keyword}
 use Rattle.characters.specs.Utf8.{wellFormed, prefixPlace}
-use Rattle.literals.specs.declared.strings.Span.{Span}
 use Rattle.reading.specs.declared.node.Node.{Node}
 use Rattle.reading.specs.Events.{Outcome}
 use Rattle.reading.specs.Limits.{Limits, limited}
@@ -19,7 +19,7 @@ use Rattle.reading.specs.Entry.{nowhere, Opening, entry}
 use Rattle.records.specs.declared.kind.Kind.the-variants as kinds
 use Rattle.records.specs.declared.row.Row.{Row}
 use Rattle.records.specs.Rows.{recordOf}
-use Rattle.records.specs.Words.{lowOf, highOf}
+use Rattle.records.specs.Words.{spanOf, lowOf, highOf}
 use Rattle.grammar.specs.declared.heads.ItemHead.{ItemHead}
 use Rattle.grammar.specs.declared.heads.ItemHead.the-variants.{End, Class, Statement, Wrong}
 use Rattle.grammar.specs.Leaves.{rowOf}
@@ -39,10 +39,6 @@ pub record Declared : Type 0 where
 abbrev pub nothing : Declared
 nothing = record { funs = []; classes = []; globals = 0 }
 
--- the span that a word holds
-abbrev pub wordSpan : ℕ → Span
-wordSpan w = record { from = w % 65536; to = w / 65536 }
-
 -- ---- item: class | statement
 
 -- a `let` whose value is a function
@@ -55,7 +51,7 @@ isConstant x = is kinds.Let x && eqb (highOf (x .value)) constant
 
 -- its name
 abbrev pub declaredName : Node → Span
-declaredName x = wordSpan (lowOf (x .value))
+declaredName x = spanOf (lowOf (x .value))
 
 -- one more function name, class name or global number
 abbrev pub withFunction : Span → Declared → Declared
@@ -103,7 +99,7 @@ unitEndP from last p =
 abbrev pub itemAs : Text → Place → Declared → ℕ → ItemHead → (Declared → ℕ → Place → Rule) → Rule
 itemAs s from d last (End h) again = unitEndP from last h
 itemAs s from d last (Class h n) again =
-    bind (call (class h (d .classes)) n) (λ q c. bind (classItemP h c last q) (λ r i. again (withClass (wordSpan (c .value)) d) (i .number) r))
+    bind (call (class h (d .classes)) n) (λ q c. bind (classItemP h c last q) (λ r i. again (withClass (spanOf (c .value)) d) (i .number) r))
 itemAs s from d last (Statement h) again =
     bind (call statement h) (λ q x. bind (unitItemP s d x last q) (λ r i. again (declares x d) (i .number) r))
 itemAs s from d last (Wrong k q) again = stop k q

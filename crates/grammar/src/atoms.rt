@@ -4,6 +4,7 @@ use characters::names::is_letter;
 use characters::names::name;
 use characters::names::word;
 use characters::place::Place;
+use characters::place::Span;
 use characters::place::byte;
 use characters::refusal::Refusal;
 use characters::tokens::Must;
@@ -12,7 +13,7 @@ use literals::numbers::Numeral;
 use literals::numbers::number;
 use literals::strings::string;
 use records::kind::Kind;
-use records::words::Span;
+use records::words::pack;
 ghost use mathlib.Core.Path.{_≡_};
 ghost use Prim.Native.Nat.{_≤_, _<_};
 ghost use lib.ListN.{length};
@@ -28,11 +29,8 @@ fn span_value(from: u32, to: u32) -> u64
     requires { ⌜ (from ≤ 65535) × (to ≤ 65535) ⌝ }
     ensures { λ r. ⌜ r ≡ spanWord from to ⌝ }
 {
-    let span = Span {
-        start: from,
-        end: to,
-    };
-    let word = span.word();
+    let span = Span { from: from, to: to };
+    let word = pack(span);
     word as u64
 }
 

@@ -5,12 +5,13 @@ use crate::heads::name_of;
 use characters::blanks::opens_blank;
 use characters::blanks::spaces;
 use characters::place::Place;
+use characters::place::Span;
 use characters::place::byte;
 use characters::tokens::Look;
 use characters::tokens::Must;
 use characters::tokens::keyword;
 use characters::tokens::need;
-use records::words::Span;
+use records::words::pack;
 ghost use mathlib.Core.Path.{_≡_};
 ghost use Prim.Native.Nat.{_≤_};
 ghost use lib.ListN.{length};
@@ -56,10 +57,10 @@ fn let_named(text: &[u8], at: Place, mark: u32) -> LetHead
                     next: after,
                 } => {
                     let named = Span {
-                        start: here.offset,
-                        end: next.offset,
+                        from: here.offset,
+                        to: next.offset,
                     };
-                    let span = named.word();
+                    let span = pack(named);
                     LetHead::Named {
                         mark,
                         span,
@@ -102,10 +103,10 @@ fn parent(text: &[u8], at: Place) -> ClassHead
         Must::Failed { refusal, at: q } => ClassHead::Wrong { refusal, at: q },
         Must::Taken { here, next } => {
             let named = Span {
-                start: here.offset,
-                end: next.offset,
+                from: here.offset,
+                to: next.offset,
             };
-            let span = named.word();
+            let span = pack(named);
             opened(text, next, span)
         }
     }

@@ -1,7 +1,7 @@
 // The keys of a dictionary and the names of a parameter list: a new one is compared with those of the items before it, which stand in the pool.
 use characters::place::Place;
+use characters::place::Span;
 use characters::refusal::Refusal;
-use literals::strings::Span;
 use literals::strings::same_key;
 use reading::answer::Out;
 use reading::node::Node;
@@ -9,7 +9,7 @@ use reading::tally::Tally;
 use records::comparisons::count;
 use records::nodes::before_of;
 use records::nodes::held_of;
-use records::words;
+use records::words::unpack;
 ghost use mathlib.Core.Path.{_≡_};
 ghost use Prim.Native.Nat.{_<_, _^_};
 ghost use lib.ListN.{length};
@@ -29,11 +29,7 @@ pub fn entry_at(pool: &[u32], item: u32, held: usize) -> Entry
 {
     let before = before_of(pool, item);
     let word = held_of(pool, item, held);
-    let span = words::Span::of(word);
-    let key = Span {
-        from: span.start,
-        to: span.end,
-    };
+    let key = unpack(word);
     Entry { key, before }
 }
 

@@ -5,6 +5,7 @@ use characters::blanks::spaces;
 use characters::names::is_name_byte;
 use characters::names::name;
 use characters::place::Place;
+use characters::place::Span;
 use characters::place::byte;
 use characters::refusal::Refusal;
 use characters::tokens::Look;
@@ -14,7 +15,7 @@ use characters::tokens::sign;
 use characters::tokens::spelled;
 use literals::strings::string;
 use records::kind::Kind;
-use records::words::Span;
+use records::words::pack;
 ghost use mathlib.Core.Path.{_≡_};
 ghost use Prim.Native.Nat.{_+_, _<_, _≤_, _^_};
 ghost use lib.ListN.{length};
@@ -192,10 +193,10 @@ fn member(text: &[u8], here: Place) -> Postfix
         Must::Failed { refusal, at: q } => Postfix::Wrong { refusal, at: q },
         Must::Taken { here: n, next } => {
             let named = Span {
-                start: n.offset,
-                end: next.offset,
+                from: n.offset,
+                to: next.offset,
             };
-            let span = named.word();
+            let span = pack(named);
             let suffix = Suffix::Member { here, span, next };
             Postfix::More { suffix }
         }
@@ -232,10 +233,10 @@ fn class_name(text: &[u8], here: Place, from: Place) -> Postfix
         Must::Failed { refusal, at: q } => Postfix::Wrong { refusal, at: q },
         Must::Taken { here: n, next } => {
             let named = Span {
-                start: n.offset,
-                end: next.offset,
+                from: n.offset,
+                to: next.offset,
             };
-            let span = named.word();
+            let span = pack(named);
             let suffix = Suffix::InstanceOf { here, span, next };
             Postfix::More { suffix }
         }

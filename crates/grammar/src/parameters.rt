@@ -8,10 +8,10 @@ use crate::rows::listed;
 use crate::rows::row;
 use characters::names::free_name;
 use characters::place::Place;
+use characters::place::Span;
 use characters::refusal::Refusal;
 use characters::tokens::Look;
 use characters::tokens::Must;
-use literals::strings::Span;
 use literals::strings::part;
 use reading::answer::Out;
 use reading::node::Node;
@@ -21,6 +21,7 @@ use records::ids::FunId;
 use records::kind::Kind;
 use records::pool::put;
 use records::row::Row;
+use records::words::pack;
 ghost use mathlib.Core.Path.{_≡_};
 ghost use mathlib.Core.List.{[]};
 ghost use Prim.Native.Nat.{_-_, _≤_, _<_, _^_};
@@ -116,7 +117,7 @@ fn param_row(name: Span, last: u32) -> Row
         line: 0,
         column: 0,
     };
-    let word = name.from + 65536 * name.to;
+    let word = pack(name);
     row(Kind::Param, nowhere, word, last, 0)
 }
 

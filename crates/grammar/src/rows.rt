@@ -1,6 +1,6 @@
 // The rows that the readers make, and the node of a list.
 use characters::place::Place;
-use literals::strings::Span;
+use characters::place::Span;
 use reading::node::Node;
 use records::ids::ClassId;
 use records::ids::FunId;
@@ -8,6 +8,7 @@ use records::kind::Kind;
 use records::row::Row;
 use records::words::high;
 use records::words::low;
+use records::words::pack;
 ghost use mathlib.Core.Path.{_≡_};
 ghost use Prim.Native.Nat.{_≤_};
 ghost use Rattle.reading.specs.Entry.{nowhere};
@@ -64,7 +65,7 @@ pub fn pair_row(element: u32, last: u32, key: Span) -> Row
         line: 0,
         column: 0,
     };
-    let word = key.from + 65536 * key.to;
+    let word = pack(key);
     row(Kind::Pair, nowhere, element, last, word)
 }
 

@@ -10,6 +10,7 @@ use lib.ListN.{length, take, drop, length-take, length-drop}
 use lib.Seq.{drop-drop, take-nil, take-all, getD-drop}
 use borrow.Author.Tests.{ltb-true, eqb-false, lt-ltb, le-ltb, ne-eqb, eq-eqb}
 use Rattle.characters.specs.declared.place.Place.{Place}
+use Rattle.characters.specs.declared.place.Span.{Span}
 use Rattle.characters.specs.declared.refusal.Refusal.the-variants.{EndOfInput, BadStringEscape}
 use Rattle.characters.specs.declared.tokens.Must.{Must}
 use Rattle.characters.specs.declared.tokens.Must.the-variants.{Taken, Failed}
@@ -20,7 +21,6 @@ use Rattle.characters.specs.AlikeLaws.{Alike, alike-byte, alike-front, alike-dr
 use Rattle.characters.specs.Utf8.{charOf, sequenceOf}
 use Rattle.characters.specs.Utf8Laws.{sequence-length}
 use Rattle.characters.specs.Names.{part, same}
-use Rattle.literals.specs.declared.strings.Span.{Span}
 use Rattle.literals.specs.declared.strings.Spelled.{Spelled}
 use Rattle.literals.specs.declared.strings.Spelled.the-variants.{End, Char}
 use Rattle.literals.specs.declared.strings.Escaped.{Escaped}

@@ -5,6 +5,7 @@ use Prim.Native.Nat.{ℕ, zero, suc, _+_, _-_, _*_}
 use lib.Dec.{leb, ltb, eqb}
 use lib.ListN.{drop}
 use Rattle.characters.specs.declared.place.Place.{Place}
+use Rattle.characters.specs.declared.place.Span.{Span}
 use Rattle.characters.specs.declared.refusal.Refusal.the-variants.{EndOfInput, BadStringEscape}
 use Rattle.characters.specs.declared.tokens.Must.{Must}
 use Rattle.characters.specs.declared.tokens.Must.the-variants.{Taken, Failed}
@@ -12,7 +13,6 @@ use Rattle.characters.specs.Text.{Text, byteAt, onBy, past, next}
 use Rattle.characters.specs.Utf8.{charOf, sequenceOf}
 use Rattle.characters.specs.Names.{part, same}
 use Rattle.literals.specs.Numbers.{digitOf}
-use Rattle.literals.specs.declared.strings.Span.{Span}
 use Rattle.literals.specs.declared.strings.Spelled.{Spelled}
 use Rattle.literals.specs.declared.strings.Spelled.the-variants.{End, Char}
 use Rattle.literals.specs.declared.strings.Escaped.{Escaped}

@@ -1,5 +1,6 @@
 // Strings: where a literal ends, and the characters that it spells.
 use characters::place::Place;
+use characters::place::Span;
 use characters::place::byte;
 use characters::refusal::Refusal;
 use characters::tokens::Must;
@@ -313,12 +314,6 @@ pub fn same(a: &[u8], b: &[u8]) -> bool
             },
         }
     }
-}
-
-// A part of the text, by the offsets of its first byte and past its last.
-pub struct Span {
-    pub from: u32,
-    pub to: u32,
 }
 
 // The bytes from one offset to another, as far as they stand in the text.

@@ -4,6 +4,7 @@
 use cases::Case;
 use cases::say;
 use characters::place::Place;
+use characters::place::Span;
 use characters::place::byte;
 use characters::tokens;
 use characters::tokens::Look;
@@ -14,7 +15,6 @@ use literals::bytearrays::Seen;
 use literals::numbers;
 use literals::numbers::Numeral;
 use literals::strings;
-use literals::strings::Span;
 use literals::strings::Spelled;
 ghost use mathlib.Core.Path.{_≡_};
 ghost use mathlib.Core.Bool.{true};

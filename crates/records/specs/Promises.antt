@@ -29,7 +29,7 @@ pub kept-apart : (j k : Kind) → numberOf j ≡ numberOf k → j ≡ k
 kept-apart j k e = Kinds.number-one j k e
 
 -- FIELDS. A packed span is the span, and the halves of an int64 are the int64.
-pub span : (s e : ℕ) → s ≤ 65535 → e ≤ 65535 → spanOf (spanWord s e) ≡ record { start = s; end = e }
+pub span : (s e : ℕ) → s ≤ 65535 → e ≤ 65535 → spanOf (spanWord s e) ≡ record { from = s; to = e }
 span s e a b = Words.span-back s e a b
 
 pub int : (v : ℕ) → wholeOf (lowOf v) (highOf v) ≡ v

@@ -1,32 +1,25 @@
 // Fields that are packed: a span of the text in one word, an int64 in two.
+use characters::place::Span;
 ghost use mathlib.Core.Path.{_≡_};
 ghost use Prim.Native.Nat.{_≤_};
 ghost use Rattle.records.specs.Words.{spanWord, spanOf, lowOf, highOf, wholeOf};
 
-// A span of the text: the offset of its first byte, and the offset after its last.
-pub struct Span {
-    pub start: u32,
-    pub end: u32,
+// The span in one word. "Text is at most 65,535 bytes."
+pub fn pack(span: Span) -> u32
+    requires { ⌜ (span .from ≤ 65535) × (span .to ≤ 65535) ⌝ }
+    ensures { λ r. ⌜ r ≡ spanWord (span .from) (span .to) ⌝ }
+{
+    let high = 65536 * span.to;
+    span.from + high
 }
 
-impl Span {
-    // The span in one word. "Text is at most 65,535 bytes."
-    pub fn word(self) -> u32
-        requires { ⌜ (self .start ≤ 65535) × (self .end ≤ 65535) ⌝ }
-        ensures { λ r. ⌜ r ≡ spanWord (self .start) (self .end) ⌝ }
-    {
-        let high = 65536 * self.end;
-        self.start + high
-    }
-
-    // The span that a word holds.
-    pub fn of(word: u32) -> Self
-        ensures { λ r. ⌜ r ≡ spanOf word ⌝ }
-    {
-        let start = word % 65536;
-        let end = word / 65536;
-        Self { start, end }
-    }
+// The span that a word holds.
+pub fn unpack(word: u32) -> Span
+    ensures { λ r. ⌜ r ≡ spanOf word ⌝ }
+{
+    let from = word % 65536;
+    let to = word / 65536;
+    Span { from, to }
 }
 
 // The low half of an int64, given in two's complement.

@@ -5,11 +5,11 @@ use native.Mathlib.Omega.{arith}
 use Rattle.records.specs.Words.{spanWord, spanOf, lowOf, highOf, wholeOf}
 
 -- A span of a text of at most 65,535 bytes.
-pub span-back : (s e : ℕ) → s ≤ 65535 → e ≤ 65535 → spanOf (spanWord s e) ≡ record { start = s; end = e }
+pub span-back : (s e : ℕ) → s ≤ 65535 → e ≤ 65535 → spanOf (spanWord s e) ≡ record { from = s; to = e }
 span-back s e a b =
     let p : (s + 65536 * e) % 65536 ≡ s = omega arith in
     let q : (s + 65536 * e) / 65536 ≡ e = omega arith in
-    λ i. record { start = p i; end = q i }
+    λ i. record { from = p i; to = q i }
 
 -- An int64 of its halves.
 pub whole-back : (v : ℕ) → wholeOf (lowOf v) (highOf v) ≡ v

@@ -11,13 +11,13 @@ before-of-requires c κs = search needs
 held-of-requires : tie.Need-held-of-requires
 held-of-requires c κs = search needs
 
-of-requires : tie.Need-of-requires
-of-requires c κs = search needs
+unpack-requires : tie.Need-unpack-requires
+unpack-requires c κs = search needs
 
 returns : tie.Need-returns
 returns c =
-    let e = c .of .ensures ∙ ap spanOf (c .before .held-of .ensures) in
-    λ i. record { key = record { from = e i .start; to = e i .end }; before = c .before .before .before-of .ensures i }
+    let e = c .unpack .ensures ∙ ap spanOf (c .before .held-of .ensures) in
+    λ i. record { key = e i; before = c .before .before .before-of .ensures i }
 
 pub entry-at-spec : {M : Type 1} → statement M
-entry-at-spec = tie.close (tie.spec before-of-requires held-of-requires of-requires returns)
+entry-at-spec = tie.close (tie.spec before-of-requires held-of-requires unpack-requires returns)

@@ -29,7 +29,8 @@ use Rattle.records.specs.declared.kind.Kind.the-variants as kinds
 use Rattle.records.specs.declared.row.Row.{Row}
 use Rattle.reading.specs.Events.{Field, Earlier}
 use Rattle.records.specs.Rows.{asField, fieldAt, recordOf}
-use Rattle.records.specs.Kinds.{Meaning, span, unused, isReference, shape, meaningAt}
+use Rattle.records.specs.Kinds.{Meaning, span, unused, isReference, shape, numberOf, meaningAt}
+use Rattle.records.specs.Nodes.{isLeaf}
 use Rattle.grammar.specs.declared.leaves.Atom.{Atom}
 use Rattle.grammar.specs.declared.leaves.Atom.the-variants.{Leaf, Paren, Bracket, Brace, Bar, Wrong}
 use Rattle.grammar.specs.Leaves.{numberAtom, spanAtom, wordAtom, nameAtom, atomBy, atomOf}
@@ -254,3 +255,48 @@ atom-on s p h = go (isDigit b) refl (isLetter b) refl (isQuote b) refl
 -- the same of an answer at hand
 pub atom-at : {s : Text} {p : Place} {a x : Atom} → Stands s p → a ≡ atomOf s p → a ≡ x → AtomOn s p x
 atom-at {s} {p} h e f = subst (AtomOn s p) (sym e ∙ f) (atom-on s p h)
+
+-- ---- the kinds of a leaf: its value stands in two words
+
+abbrev pub AtomLeaf : Atom → Type 0
+AtomLeaf (Leaf k v n) = isLeaf (numberOf k) ≡ true
+AtomLeaf (Paren n) = Unit {0}
+AtomLeaf (Bracket n) = Unit {0}
+AtomLeaf (Brace n) = Unit {0}
+AtomLeaf Bar = Unit {0}
+AtomLeaf (Wrong k q) = Unit {0}
+
+number-leaf : (h : Place) (x : Numeral) → AtomLeaf (numberAtom h x)
+number-leaf h (Int v q) = refl
+number-leaf h (Float q) = refl
+number-leaf h (Bad k q) = tt
+
+span-leaf : (k : Kind) (from : ℕ) (r : Must) → isLeaf (numberOf k) ≡ true → AtomLeaf (spanAtom k from r)
+span-leaf k from (Taken a q) e = e
+span-leaf k from (Failed j q) e = tt
+
+word-leaf : (k : ℕ) (h q : Place) → AtomLeaf (wordAtom k h q)
+word-leaf k h q =
+    choice AtomLeaf (eqb k 0) (λ t. refl)
+    (λ t. choice AtomLeaf (eqb k 1) (λ t. refl)
+    (λ t. choice AtomLeaf (eqb k 2) (λ t. refl) (λ t. choice AtomLeaf (eqb k 3) (λ t. refl) (λ t. tt))))
+
+name-leaf : (s : Text) (r : Must) → AtomLeaf (nameAtom s r)
+name-leaf s (Taken h q) = word-leaf (wordOf (part s (h .offset) (q .offset))) h q
+name-leaf s (Failed k q) = tt
+
+atom-leaf : (s : Text) (b : ℕ) (h : Place) → AtomLeaf (atomBy s b h)
+atom-leaf s b h =
+    choice AtomLeaf (isDigit b) (λ t. number-leaf h (number s h))
+    (λ t. choice AtomLeaf (isLetter b) (λ t. name-leaf s (name s h))
+    (λ t. choice AtomLeaf (isQuote b) (λ t. span-leaf kinds.String (h .offset) (string s h) refl)
+    (λ t. choice AtomLeaf (eqb b 40) (λ t. tt)
+    (λ t. choice AtomLeaf (eqb b 91) (λ t. tt)
+    (λ t. choice AtomLeaf (eqb b 123) (λ t. tt)
+    (λ t. choice AtomLeaf (eqb b 35 && eqb (byteAt s (h .offset + 1)) 91) (λ t. span-leaf kinds.Bytes (h .offset) (bytearray s (onBy 2 h)) refl)
+    (λ t. choice AtomLeaf (eqb b 36) (λ t. span-leaf kinds.Host (h .offset + 1) (name s (onBy 1 h)) refl)
+    (λ t. choice AtomLeaf (eqb b 124) (λ t. tt) (λ t. tt)))))))))
+
+pub leaf-kind : (s : Text) (p : Place) {k : Kind} {v : ℕ} {n : Place} → atomOf s p ≡ Leaf k v n → isLeaf (numberOf k) ≡ true
+unfolding atomOf
+leaf-kind s p e = subst AtomLeaf e (atom-leaf s (byteAt s (p .offset)) p)

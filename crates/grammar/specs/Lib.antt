@@ -19,6 +19,8 @@ pub mod Refusing
 pub mod Leads
 pub mod Suits
 pub mod Contracts
+pub mod Reads
+pub mod ReadLaws
 pub mod Parameters
 pub mod Examples
 pub mod UnitExamples

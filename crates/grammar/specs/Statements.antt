@@ -1,5 +1,5 @@
 -- The rules of statements, each headed by its production. Assumes nothing.
-use mathlib.Core.Bool.{Bool, true, false, _||_}
+use mathlib.Core.Bool.{Bool, _||_}
 use mathlib.Core.List.{[], _∷_}
 use Prim.Native.Nat.{ℕ}
 use lib.Dec.{eqb}
@@ -14,6 +14,7 @@ use Rattle.records.specs.declared.kind.Kind.the-variants as kinds
 use Rattle.records.specs.declared.row.Row.{Row}
 use Rattle.records.specs.Rows.{recordOf}
 use Rattle.records.specs.Words.{wholeOf}
+use Rattle.records.specs.Nodes.{roleBy}
 use Rattle.grammar.specs.declared.heads.StatementHead.{StatementHead}
 use Rattle.grammar.specs.declared.heads.StatementHead.the-variants as head
 use Rattle.grammar.specs.declared.heads.StepHead.{StepHead}
@@ -198,17 +199,10 @@ assertP s from p =
 abbrev pub letRow : Place → ℕ → ℕ → Node → Row
 letRow from mark name e = rowOf kinds.Let from mark name (e .number)
 
--- what a `let` declares, as a number: 0 is a constant, 1, the mark of `var`, a variable, and 2 a function. "A unit-level `let` whose value is a
+-- what a `let` declares, as a number: a function by its value, else a constant or a variable by `var`. "A unit-level `let` whose value is a
 -- function is a unit function name too."
-abbrev pub constant : ℕ
-constant = 0
-
-abbrev pub functional : ℕ
-functional = 2
-
--- a function by its value, else by `var`
 abbrev pub roleOf : ℕ → Node → ℕ
-roleOf mark e = elim (is kinds.Closure e) [ true ↦ functional | false ↦ mark ]
+roleOf mark e = roleBy (is kinds.Closure e) mark
 
 -- the value of its node: its name, and above it what it declares
 unfoldable pub declareP : Place → ℕ → ℕ → Node → Place → Rule

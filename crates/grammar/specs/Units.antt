@@ -20,13 +20,13 @@ use Rattle.records.specs.declared.kind.Kind.the-variants as kinds
 use Rattle.records.specs.declared.row.Row.{Row}
 use Rattle.records.specs.Rows.{recordOf}
 use Rattle.records.specs.Words.{spanOf, lowOf, highOf}
+use Rattle.records.specs.Nodes.{constant, functional}
 use Rattle.grammar.specs.declared.heads.ItemHead.{ItemHead}
 use Rattle.grammar.specs.declared.heads.ItemHead.the-variants.{End, Class, Statement, Wrong}
 use Rattle.grammar.specs.Leaves.{rowOf}
 use Rattle.grammar.specs.Heads.{itemOf}
 use Rattle.grammar.specs.Expressions.{Rule, statement, class, turns, is, statedRow}
 use Rattle.grammar.specs.Functions.{newName, blockRow, funRow}
-use Rattle.grammar.specs.Statements.{constant, functional}
 use Rattle.grammar.specs.Grammar.{grammar}
 
 -- what the unit has declared so far: names newest first, and the next global number

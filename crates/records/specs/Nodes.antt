@@ -63,7 +63,10 @@ pub record Keeps (made : ℕ) (before later : List ℕ) : Type 0 where
 abbrev pub isLeaf : ℕ → Bool
 isLeaf kind = (leb (numberOf True) kind && leb kind (numberOf Bytes)) || (eqb kind (numberOf Name) || eqb kind (numberOf Host))
 
--- What a `let` declares: 2, a function, where its value is one; else its mark, 0 for a constant and 1 for a variable.
+-- What a `let` declares: a function, where its value is one; else by its mark a constant, or 1, a variable.
+abbrev pub constant : ℕ
+constant = 0
+
 abbrev pub functional : ℕ
 functional = 2
 

@@ -25,7 +25,7 @@ use Rattle.records.specs.declared.kind.Kind.the-variants.{Closure}
 use Rattle.records.specs.declared.row.Row.{Row}
 use Rattle.records.specs.Kinds.{numberOf}
 use Rattle.records.specs.Words.{wholeOf}
-use Rattle.records.specs.Rows.{recordOf, width, layout, Lent, Lays}
+use Rattle.records.specs.Rows.{recordOf, layout, Lent, Lays}
 use Rattle.records.specs.Nodes.{wordAt, kindAt, placeAt, heldAt, heldIn, Stored, Keeps, isLeaf, valueBy, closureAt, valueAt, valueOf, nodeAt, outOf, MakesRow, rowAtPlace}
 use Rattle.records.specs.Laws.Rows.{rowWords, layout-word, layout-before, laid-length, laid-before}
 

@@ -1,5 +1,5 @@
 -- THE PROMISES of records in a pool. Read this page first: each theorem is said in document 01's words, and its proof is one citation.
--- What the words mean stands in Kinds, Words and Rows, and in the calculus of reading. Assumes nothing.
+-- What the words mean stands in Kinds, Words, Rows and Nodes, and in the calculus of reading. Assumes nothing.
 use mathlib.Core.Path.{_≡_}
 use mathlib.Core.List.{List, map}
 use Prim.Native.Nat.{ℕ, _+_, _*_, _≤_, _<_}
@@ -7,7 +7,9 @@ use lib.ListN.{length, getD}
 use Rattle.characters.specs.declared.place.Place.{Place}
 use Rattle.reading.specs.declared.tally.Tally.{Tally}
 use Rattle.reading.specs.declared.answer.Out.{Out}
+use Rattle.reading.specs.declared.answer.Got.{Got}
 use Rattle.reading.specs.Events.{Rec}
+use Rattle.reading.specs.Process.{nodeAs}
 use Rattle.reading.specs.Says.{laid, Makes, Compares}
 use Rattle.reading.specs.Laws.Says as Says
 use Rattle.records.specs.declared.kind.Kind.{Kind}
@@ -17,9 +19,11 @@ use Rattle.records.specs.declared.row.RowAt.the-variants.{Here}
 use Rattle.records.specs.Kinds.{numberOf, kindOf}
 use Rattle.records.specs.Words.{spanWord, spanOf, lowOf, highOf, wholeOf}
 use Rattle.records.specs.Rows.{recordOf, width, layout, capOf, Lent, rowAt, rowsAt}
+use Rattle.records.specs.Nodes.{Keeps, valueOf, nodeAt, MakesRow}
 use Rattle.records.specs.Laws.Kinds as Kinds
 use Rattle.records.specs.Laws.Words as Words
 use Rattle.records.specs.Laws.Rows as Rows
+use Rattle.records.specs.Laws.Nodes as Nodes
 
 -- KINDS. Each has one number, and a number stands for one kind at most.
 pub known : (k : Kind) → kindOf (numberOf k) ≡ Known k
@@ -51,6 +55,14 @@ past rs pool made i h = Rows.laid-past rs pool made i h
 pub never-altered : (rs : List Rec) (pool : List ℕ) (made n : ℕ) → n ≤ made → rowAt (laid layout pool made rs) n ≡ rowAt pool n
 never-altered rs pool made n h = Rows.laid-row rs pool made n h
 
+-- THE NODE of a record made before says what it said, and that of the row laid last is the one that the calculus makes.
+pub says-on : {made : ℕ} {before later : List ℕ} → Keeps made before later → (n : ℕ) → n ≤ made → nodeAt later n ≡ nodeAt before n
+says-on h n l = Nodes.node-kept h n l
+
+pub last : (pool : List ℕ) (made : ℕ) (w : Row) → made * width + width ≤ length pool
+    → nodeAt (layout pool made (recordOf w)) (made + 1) ≡ nodeAs (made + 1) (recordOf w) (valueOf pool made w)
+last pool made w h = Nodes.node-laid pool made w h
+
 -- ROWS AND RECORDS determine each other. Reading back what was laid gives the rows, in their order;
 pub back : (ws : List Row) (pool : List ℕ) (made : ℕ) → (made + length ws) * width ≤ length pool
     → rowsAt (laid layout pool made (map recordOf ws)) made (length ws) ≡ map Here ws
@@ -65,11 +77,16 @@ one v w pool made e h s = Rows.rows-one v w pool made e h s
 pub lent : (pool : List ℕ) → Lent pool (capOf (length pool))
 lent pool = Rows.lent pool
 
--- DETERMINED. What `put` and `count` owe leaves one answer, and one pool.
+-- DETERMINED. What `put`, `make` and `count` owe leaves one answer, and one pool.
 pub put-determined : (cap : ℕ) (t : Tally) (p : Place) (w : Row) (v : ℕ) (r r′ : Out) (A B B′ : List ℕ)
     → Makes layout cap t p (recordOf w) v r A B
     → Makes layout cap t p (recordOf w) v r′ A B′ → (r ≡ r′) × (B ≡ B′)
 put-determined cap t p w v r r′ A B B′ h k = Says.makes-unique h k
+
+pub make-determined : (cap : ℕ) (t : Tally) (p : Place) (w : Row) (r r′ : Got) (A B B′ : List ℕ) → MakesRow cap t p w r A B
+    → MakesRow cap t p w r′ A B′
+    → (r ≡ r′) × (B ≡ B′)
+make-determined cap t p w r r′ A B B′ h k = Nodes.row-unique h k
 
 pub count-determined : (comps : ℕ) (t : Tally) (p : Place) (r r′ : Out) → Compares comps t p r → Compares comps t p r′ → r ≡ r′
 count-determined comps t p r r′ h k = Says.compares-unique h k

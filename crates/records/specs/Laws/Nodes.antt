@@ -19,6 +19,7 @@ use Rattle.reading.specs.declared.answer.Out.the-variants as out
 use Rattle.reading.specs.Events.{Rec, withRecord}
 use Rattle.reading.specs.Process.{Process, Grammar, nodeAs, nodeOf}
 use Rattle.reading.specs.Says.{laid, Does, Makes}
+use Rattle.reading.specs.Laws.Says.{read-refused, refused-read, makes-unique}
 use Rattle.reading.specs.Laws.Does.{makes-one, makes-none, made, told, does-pool}
 use Rattle.records.specs.declared.kind.Kind.{Kind}
 use Rattle.records.specs.declared.kind.Kind.the-variants.{Closure}
@@ -146,6 +147,19 @@ row-made {before} {later} {cap} {t} {at} {w} h m l =
 pub row-refused : {pool : List ℕ} {cap : ℕ} {t : Tally} {at : Place} {w : Row} → cap ≤ t .records
     → MakesRow cap t at w (Refused PoolFull at t) pool pool
 row-refused h = record { makes = makes-none h }
+
+-- An answer is determined by what it says.
+pub out-one : (before later : List ℕ) (r s : Got) → outOf before r ≡ outOf later s → r ≡ s
+out-one before later (Read p t) (Read q u) e = let a : p ≡ q = cc in let b : t ≡ u = cc in λ i. Read (a i) (b i)
+out-one before later (Read p t) (Refused k q u) e = absurd (read-refused e)
+out-one before later (Refused k p t) (Read q u) e = absurd (refused-read e)
+out-one before later (Refused j p t) (Refused k q u) e = let a : j ≡ k = cc in let b : p ≡ q = cc in let c : t ≡ u = cc in λ i. Refused (a i) (b i) (c i)
+
+-- So `make` has one answer, and leaves one pool.
+pub row-unique : {before later other : List ℕ} {cap : ℕ} {t : Tally} {at : Place} {w : Row} {r s : Got} → MakesRow cap t at w r before later
+    → MakesRow cap t at w s before other → (r ≡ s) × (later ≡ other)
+row-unique {later = later} {other = other} {r = r} {s = s} h k =
+    let e = makes-unique (h .makes) (k .makes) in (out-one later other r s (e .0), e .1)
 
 -- What was made, where `make` read on.
 pub record MadeRow (t : Tally) (at : Place) (w : Row) (p : Place) (u : Tally) (before later : List ℕ) : Type 0 where

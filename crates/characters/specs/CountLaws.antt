@@ -9,7 +9,8 @@ use lib.Dec.{ltb}
 use lib.ListN.{length, getD, drop, drop-of-length-le, length-drop}
 use lib.Seq.{drop-cons, drop-drop}
 use borrow.Author.Tests.{ltb-true, ltb-false, not-true, not-false}
-use Rattle.characters.specs.Text.{Text}
+use Rattle.characters.specs.Text.{Text, byteAt}
+use Rattle.characters.specs.PlaceLaws.{getD-any}
 use Rattle.characters.specs.Counts.{countOf, endOf}
 
 pub count-yes : (f : ℕ → Bool) (b : ℕ) (l : Text) → f b ≡ true → countOf f (b ∷ l) ≡ suc (countOf f l)
@@ -101,6 +102,23 @@ module _ (f : ℕ → Bool) (s : Text) where
 
     pub by-run : (o : ℕ) → P o → P (endOf f s o)
     by-run o p = go-along (length s) o (omega arith) p
+
+  -- the bytes of a run are of its class
+  pub run-bytes : (o j : ℕ) → o ≤ j → j < endOf f s o → (j < length s) × (f (byteAt s j) ≡ true)
+  run-bytes o = by-run P step o (λ j h l. absurd (omega arith))
+    where
+      P : ℕ → Type 0
+      P i = (j : ℕ) → o ≤ j → j < i → (j < length s) × (f (byteAt s j) ≡ true)
+
+      step : (i : ℕ) → i < length s → f (getD s i 0) ≡ true → P i → P (i + 1)
+      step i h e p j k l = go (ltb j i) refl
+        where
+          go : (t : Bool) → ltb j i ≡ t → (j < length s) × (f (byteAt s j) ≡ true)
+          go true t = p j k (ltb-true j i t)
+          go false t =
+              let m = ltb-false j i t in
+              let z : j ≡ i = omega arith in
+              (omega arith, ap (λ (x : ℕ). f (byteAt s x)) z ∙ ap f (getD-any s i 256 0 h) ∙ e)
 
 -- to the end of a run of a narrower class
 pub run-over : (f g : ℕ → Bool) (s : Text) → ((b : ℕ) → g b ≡ true → f b ≡ true) → {from i e : ℕ} → In f s from i → e ≡ endOf g s i → In f s from e

@@ -60,7 +60,7 @@ fn is_small(b: u8) -> bool
 }
 
 // Where the small letters from `from` on end: one test of a range for a byte, and four bytes a turn.
-fn small_end(text: &[u8], from: usize) -> usize
+pub fn small_end(text: &[u8], from: usize) -> usize
     requires { ⌜ (from ≤ length (now text)) × (length (now text) < 2 ^ 31) ⌝ }
     ensures { λ r. ⌜ r ≡ endOf isSmall (now (text .entry)) from ⌝ }
 {

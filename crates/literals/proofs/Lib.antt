@@ -1,2 +1,3 @@
 mod NumberParts
 mod NumberRuns
+mod Plains

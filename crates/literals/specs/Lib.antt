@@ -13,3 +13,5 @@ pub mod ByteArrays
 pub mod ByteArrayLaws
 pub mod ByteArrayStable
 pub mod ByteArrayExamples
+pub mod Plain
+pub mod PlainLaws

@@ -22,3 +22,4 @@ pub mod Contracts
 pub mod Parameters
 pub mod Examples
 pub mod UnitExamples
+pub mod LimitExamples

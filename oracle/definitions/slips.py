@@ -45,34 +45,54 @@ def slips(word):
 
 # ---- the calls of the examples -------------------------------------------
 
+# What of an answer an example states: the five numbers, every word of the records, or the operator of each binary.
+def five(answer):
+    return answer.split(" ")[:5]
+
+
+def rows(answer):
+    return answer.split(" ")[5:]
+
+
+def operators(answer):
+    words = rows(answer)
+    return [words[at + 4] for at in range(0, len(words), 8) if words[at] == "17"]
+
+
 QUOTED = r'\(ascii "((?:[^"\\]|\\.)*)"\)'
+MOST = 4294967295
 SHAPES = [
-    # what an example says, as a pattern; its limits; whether every word counts
-    (r"\bAnswers " + QUOTED, lambda m: (m[1], (1024, 256, 4294967295), 0), False),
-    (r"\bNested (\d+) " + QUOTED, lambda m: (m[2], (1024, int(m[1]), 4294967295), 0), False),
-    (r"\bPooled (\d+) " + QUOTED, lambda m: (m[2], (int(m[1]), 256, 4294967295), 0), False),
-    (r"\bCompared (\d+) " + QUOTED, lambda m: (m[2], (1024, 256, int(m[1])), 0), False),
-    (r"\bdrawn " + QUOTED + r" (\d+)", lambda m: (m[1], (1024, int(m[2]), 4294967295), 0), False),
+    # how an example is written, its text with limits and form, and what it states
+    (r"\bAnswers " + QUOTED, lambda m: (m[1], (1024, 256, MOST), "string"), five),
+    (r"\bNested (\d+) " + QUOTED, lambda m: (m[2], (1024, int(m[1]), MOST), "string"), five),
+    (r"\bPooled (\d+) " + QUOTED, lambda m: (m[2], (int(m[1]), 256, MOST), "string"), five),
+    (r"\bCompared (\d+) " + QUOTED, lambda m: (m[2], (1024, 256, int(m[1])), "string"), five),
+    (r"\bdrawn " + QUOTED + r" (\d+)", lambda m: (m[1], (1024, int(m[2]), MOST), "string"), five),
     (r"\bentered " + QUOTED + r" (\d+) (\d+) (\d+) (true|false)",
-     lambda m: (m[1], (int(m[2]), int(m[3]), int(m[4])), int(m[5] == "true")), False),
-    (r"\bRows " + QUOTED, lambda m: (m[1], (1024, 256, 4294967295), 0), True),
+     lambda m: (m[1], (int(m[2]), int(m[3]), int(m[4])), "file" if m[5] == "true" else "string"), five),
+    (r"\bRows " + QUOTED, lambda m: (m[1], (1024, 256, MOST), "string"), rows),
+    (r"\bunit " + QUOTED + r" (\d+)", lambda m: (m[1], (1024, int(m[2]), MOST), "string"), operators),
 ]
-# A text of 65,536 bytes, which LimitExamples.antt has without writing it out.
-WIDE = (b" " * 65536, "string", (1024, 0, 0))
+# The texts that LimitExamples.antt has without writing them out.
+UNWRITTEN = [(b" " * 65536, "string", (1024, 0, 0)), (b" " * 65535, "string", (1024, 0, 0)),
+             (b"f(" + b"1," * 253 + b"1);", "string", (1024, 256, MOST)),
+             (b"f(" + b"1," * 254 + b"1);", "string", (1024, 256, MOST)),
+             ('x = "\u00e9" + ;'.encode(), "string", (1024, 256, MOST))]
 
 
 def example_calls():
-    calls, whole = [WIDE], [False]
+    """The calls of the examples, and what each example states."""
+    calls, states = list(UNWRITTEN), [five] * len(UNWRITTEN)
     for name in ("UnitExamples", "LimitExamples"):
         with open(os.path.join(compare.ROOT, SPECS, name + ".antt"), encoding="utf-8") as file:
             text = file.read()
-        for pattern, read, every_word in SHAPES:
+        for pattern, read, stated in SHAPES:
             for found in re.finditer(pattern, text):
                 quoted, limit, form = read(found)
                 quoted = re.sub(r"\\(.)", lambda m: {"n": "\n", "t": "\t", "r": "\r"}.get(m[1], m[1]), quoted)
-                calls.append((quoted.encode(), ("string", "file")[form], limit))
-                whole.append(every_word)
-    return calls, whole
+                calls.append((quoted.encode(), form, limit))
+                states.append(stated)
+    return calls, states
 
 
 # ---- a model with a slip -------------------------------------------------
@@ -107,10 +127,6 @@ def ask(model, calls):
     return limits.ask(["node", "--stack-size=200000", model, "--calls"], calls)
 
 
-def shown_of(answers, whole):
-    return [answer if every else answer.split(" ")[:5] for answer, every in zip(answers, whole)]
-
-
 def trees(model, texts):
     lines = "".join(text.hex() + "\n" for text in texts)
     run = subprocess.run(["node", "--stack-size=200000", model], input=lines.encode(), stdout=subprocess.PIPE, check=True,
@@ -122,12 +138,15 @@ class Base:
     """What the definitions say without a slip."""
 
     def __init__(self):
-        self.calls, self.whole = example_calls()
-        self.examples = shown_of(ask(compare.MODEL, self.calls), self.whole)
+        self.calls, self.states = example_calls()
+        self.examples = self.stated(compare.MODEL)
         self.stored = list(compare.stored([os.path.join(compare.ROOT, "oracle", "answers.txt")]))
         self.trees = trees(compare.MODEL, self.stored)
         self.limited = list(self.drawn_calls())
         self.second = limits.second(self.limited)
+
+    def stated(self, model):
+        return [states(answer) for states, answer in zip(self.states, ask(model, self.calls))]
 
     def drawn_calls(self):
         """The texts of limits.py that are listed or stored, and some generated ones, with their limits."""
@@ -149,8 +168,8 @@ class Base:
     def told(self, slip):
         with tempfile.TemporaryDirectory() as folder:
             model = copy_with(slip, folder)
-            return (shown_of(ask(model, self.calls), self.whole) != self.examples,
-                    trees(model, self.stored) != self.trees, self.told_by_second(model))
+            return (self.stated(model) != self.examples, trees(model, self.stored) != self.trees,
+                    self.told_by_second(model))
 
 
 def main():

@@ -63,22 +63,35 @@ function reading$Process$joined(t, end, es, f) {
   return {end: o.end, events: P.append(es, o.events)};
 }
 
+const words = o => P.array(reading$Events$recordsOf(o.events)).map(r => P.array(records$Rows$words(r)).map(String));
+
 // The engine has no limits, so the call has the highest: records, levels, comparisons.
 function answer(text, file) {
   const o = grammar$Units$full(P.list(Array.from(text)), 65535, 256, 4294967295, file);
   const place = reading$Answers$endPlace(o.end);
-  return {
+  return JSON.stringify({
     number: reading$Answers$endNumber(o.end), line: place.line, column: place.column,
-    records: P.array(reading$Events$recordsOf(o.events)).map(r => P.array(records$Rows$words(r)).map(String)),
-    comparisons: reading$Events$comparisonsOf(o.events),
-  };
+    records: words(o), comparisons: reading$Events$comparisonsOf(o.events),
+  });
 }
 
-// In: a text a line, in hex. Out: an answer a line. With `--file-form` the texts are read in the file form.
+// A call and its answer in the form of the second reading (oracle/second/main.rs).
+function called(line) {
+  const [hex, records, nesting, comparisons, file] = line.split(' ');
+  const text = P.list(Array.from(Buffer.from(hex, 'hex')));
+  const o = grammar$Units$full(text, Number(records), Number(nesting), Number(comparisons), file === '1');
+  const place = reading$Answers$endPlace(o.end), rows = words(o);
+  const counts = [rows.length, reading$Events$comparisonsOf(o.events)];
+  return [reading$Answers$endNumber(o.end), place.line, place.column, ...counts, ...rows.flat()].join(' ');
+}
+
+// In: a text a line, in hex. Out: an answer a line. With `--file-form` the texts are read in the file form; with `--calls` each
+// line is a call with its limits.
 const fs = require('fs');
-const file = process.argv[2] === '--file-form';
-for (const hex of fs.readFileSync(0, 'latin1').split('\n').slice(0, -1)) {
+const option = process.argv[2];
+const say = option === '--calls' ? called : hex => answer(Buffer.from(hex, 'hex'), option === '--file-form');
+for (const line of fs.readFileSync(0, 'latin1').split('\n').slice(0, -1)) {
   let said;
-  try { said = answer(Buffer.from(hex, 'hex'), file); } catch (e) { said = {error: String(e)}; }
-  fs.writeSync(1, JSON.stringify(said) + '\n');
+  try { said = say(line); } catch (e) { said = JSON.stringify({error: String(e)}); }
+  fs.writeSync(1, said + '\n');
 }

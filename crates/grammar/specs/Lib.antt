@@ -24,3 +24,4 @@ pub mod ReadLaws
 pub mod Parameters
 pub mod Examples
 pub mod UnitExamples
+pub mod LimitExamples

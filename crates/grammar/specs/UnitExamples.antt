@@ -34,7 +34,7 @@ unfolding full blanks fileStart lineEnd pass past next tails name along freeName
 entered s cap nest comps file = full s cap nest comps file
 
 -- in the string form, with a nesting limit, 1,024 records and the largest u32 of comparisons
-abbrev unit : Text → ℕ → Outcome
+abbrev pub unit : Text → ℕ → Outcome
 unit s nest = entered s 1024 nest 4294967295 false
 
 -- an example: the answer, every record made, and the bytes that its bytearrays spell
@@ -58,7 +58,7 @@ abbrev drawn : Text → ℕ → Example
 drawn s nest = drawnAs s (unit s nest)
 
 -- number, line, column, records, comparisons
-abbrev says : ℕ → ℕ → ℕ → ℕ → ℕ → Answer
+abbrev pub says : ℕ → ℕ → ℕ → ℕ → ℕ → Answer
 says number line column records comparisons = record { number = number; line = line; column = column; records = records; comparisons = comparisons }
 
 -- an answer in the first line, with its records and no bytes
@@ -267,17 +267,17 @@ globals-are-numbered = refl
 -- ---- further answers
 
 -- with no limit that is reached
-abbrev Answers : Text → Answer → Type 0
+abbrev pub Answers : Text → Answer → Type 0
 Answers s a = answerOf (unit s 256) ≡ a
 
 -- with a nesting limit, a record limit or a comparison limit
-abbrev Nested : ℕ → Text → Answer → Type 0
+abbrev pub Nested : ℕ → Text → Answer → Type 0
 Nested nest s a = answerOf (unit s nest) ≡ a
 
-abbrev Pooled : ℕ → Text → Answer → Type 0
+abbrev pub Pooled : ℕ → Text → Answer → Type 0
 Pooled cap s a = answerOf (entered s cap 256 4294967295 false) ≡ a
 
-abbrev Compared : ℕ → Text → Answer → Type 0
+abbrev pub Compared : ℕ → Text → Answer → Type 0
 Compared comps s a = answerOf (entered s 1024 256 comps false) ≡ a
 
 -- the end of the text is tested before blanks in a block; the search for `else` has skipped them already. Lists skip them first

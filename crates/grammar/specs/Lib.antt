@@ -16,6 +16,7 @@ pub mod ChainLaws
 pub mod Keys
 pub mod KeyLaws
 pub mod Refusing
+pub mod HeadRefusing
 pub mod Leads
 pub mod Suits
 pub mod Contracts

@@ -4,3 +4,4 @@ pub mod Words
 pub mod Rows
 pub mod Nodes
 pub mod Meanings
+pub mod Pools

@@ -1,7 +1,7 @@
 -- WHAT FIELDS MEAN among the records made before: a field that the table calls an expression holds the number of an expression's record,
 -- and so on. Assumes nothing.
 use mathlib.Core.Path.{_≡_}
-use mathlib.Core.List.{List, [], _∷_}
+use mathlib.Core.List.{List, [], _∷_, _++_}
 use mathlib.Core.Bool.{Bool, true, false, _&&_}
 use Prim.Native.Nat.{ℕ, zero, suc, _≤_}
 use lib.Dec.{T, leb, eqb}
@@ -87,3 +87,8 @@ MeantBy Unknown made fs = ⊥
 -- MEANT: a record is of a kind of the table, and each of its fields is what the table says, after these records.
 abbrev pub Meant : List Rec → Rec → Type 0
 Meant made r = MeantBy (kindOf (r .kind)) made (r .fields)
+
+-- Every record of a list is meant, after those before it.
+abbrev pub AllMeant : List Rec → List Rec → Type 0
+AllMeant made [] = Unit
+AllMeant made (r ∷ rs) = Meant made r × AllMeant (made ++ (r ∷ [])) rs

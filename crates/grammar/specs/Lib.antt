@@ -1,3 +1,4 @@
+pub mod Promises
 pub mod Operators
 pub mod Leaves
 pub mod LeafLaws
@@ -19,6 +20,8 @@ pub mod Refusing
 pub mod HeadRefusing
 pub mod Leads
 pub mod Suits
+pub mod Entries
+pub mod EntryLaws
 pub mod Contracts
 pub mod Parameters
 pub mod Examples

@@ -5,8 +5,7 @@ use mathlib.Core.Bool.{Bool, true, false, _&&_}
 use mathlib.Core.List.{List, [], _∷_}
 use Prim.Native.Nat.{ℕ, zero, suc, _+_, _≤_, _<_}
 use native.Mathlib.Omega.{arith}
-use lib.Dec.{eqb}
-use lib.ListN.{getD}
+use lib.Dec.{T, eqb}
 use borrow.Author.Tests.{eqb-true, ne-eqb}
 use Rattle.characters.specs.declared.place.Place.{Place}
 use Rattle.characters.specs.declared.refusal.Refusal.the-variants.{UnknownAtom}
@@ -26,14 +25,14 @@ use Rattle.literals.specs.ByteArrays.{bytearray}
 use Rattle.literals.specs.ByteArrayLaws.{bytearray-accepted}
 use Rattle.records.specs.declared.kind.Kind.{Kind}
 use Rattle.records.specs.declared.kind.Kind.the-variants as kinds
-use Rattle.records.specs.declared.row.Row.{Row}
-use Rattle.reading.specs.Events.{Field, Earlier}
-use Rattle.records.specs.Rows.{asField, fieldAt, recordOf}
-use Rattle.records.specs.Kinds.{Meaning, span, unused, isReference, shape, numberOf, meaningAt}
+use Rattle.reading.specs.Events.{Rec}
+use Rattle.records.specs.Kinds.{span, expression, numberOf}
+use Rattle.records.specs.Rows.{recordOf}
 use Rattle.records.specs.Nodes.{isLeaf}
+use Rattle.records.specs.Meanings.{isA, Meant}
 use Rattle.grammar.specs.declared.leaves.Atom.{Atom}
 use Rattle.grammar.specs.declared.leaves.Atom.the-variants.{Leaf, Paren, Bracket, Brace, Bar, Wrong}
-use Rattle.grammar.specs.Leaves.{numberAtom, spanAtom, wordAtom, nameAtom, atomBy, atomOf}
+use Rattle.grammar.specs.Leaves.{leafRow, numberAtom, spanAtom, wordAtom, nameAtom, atomBy, atomOf}
 
 -- ---- the parts of the definition
 
@@ -101,71 +100,43 @@ bytearray-spans s p h = go (bytearray s p) refl
     go (Taken a q) e = bytearray-accepted s p a q h e .1
     go (Failed k q) e = tt
 
--- the fields of a kind are plain words, so its record refers to none
-abbrev pub Plain : Kind → Type 0
-Plain k = (i : ℕ) → isReference (meaningAt k i) ≡ false
+-- the record of a leaf of this kind is an expression's, and its fields are what the table says of them
+pub record Plain (k : Kind) : Type 0 where
+  pub meant : (made : List Rec) (p : Place) (v : ℕ) → Meant made (recordOf (leafRow k p v))
+  pub expression : T (isA expression (numberOf k))
 
-pub plain-earlier : (w : Row) (made : ℕ) → Plain (w .kind) → Earlier made (recordOf w .fields)
-plain-earlier w made h =
-    one 0 (w .a) (f 1 (w .b) ∷ f 2 (w .c) ∷ f 3 (w .d) ∷ [])
-    (one 1 (w .b) (f 2 (w .c) ∷ f 3 (w .d) ∷ []) (one 2 (w .c) (f 3 (w .d) ∷ []) (one 3 (w .d) [] tt)))
-  where
-    f : ℕ → ℕ → Field
-    f = fieldAt (w .kind)
+plain : {k : Kind} → ((made : List Rec) (p : Place) (v : ℕ) → Meant made (recordOf (leafRow k p v))) → T (isA expression (numberOf k)) → Plain k
+plain m e = record { meant = m; expression = e }
 
-    one : (i k : ℕ) (fs : List Field) → Earlier made fs → Earlier made (f i k ∷ fs)
-    one i k fs e = subst⁻¹ (λ (t : Bool). Earlier made (asField t k ∷ fs)) (h i) e
-
--- an atom's fields are plain; past it, or past the sign that opens it, the text goes on
+-- an atom's record is an expression's; past it, or past the sign that opens it, the text goes on
 abbrev pub AtomOn : Text → Place → Atom → Type 0
 AtomOn s p (Leaf k v n) = Plain k × Advanced s p n
 AtomOn s p (Paren n) = Advanced s p n
 AtomOn s p (Bracket n) = Advanced s p n
 AtomOn s p (Brace n) = Advanced s p n
-AtomOn s p Bar = Unit {0}
+AtomOn s p Bar = Advanced s p (onBy 1 p)
 AtomOn s p (Wrong k q) = Unit {0}
-
--- the kinds of an atom's record
-no-fields : (k : Kind) → shape k .fields ≡ [] → Plain k
-no-fields k e i = ap (λ (l : List Meaning). isReference (getD l i unused)) e
-
-one-span : (k : Kind) → shape k .fields ≡ span ∷ [] → Plain k
-one-span k e i = ap (λ (l : List Meaning). isReference (getD l i unused)) e ∙ go i
-  where
-    go : (i : ℕ) → isReference (getD (span ∷ []) i unused) ≡ false
-    go zero = refl
-    go (suc i) = refl
-
-int-plain : Plain kinds.Int
-int-plain zero = refl
-int-plain (suc zero) = refl
-int-plain (suc (suc i)) = refl
-
-float-plain : Plain kinds.Float
-float-plain zero = refl
-float-plain (suc zero) = refl
-float-plain (suc (suc i)) = refl
 
 module _ (s : Text) (p : Place) (h : Stands s p) where
   number-atom-on : AtomOn s p (numberAtom p (number s p))
   number-atom-on = go (number s p) (number-on s p h)
     where
       go : (x : Numeral) → NumeralOn s p x → AtomOn s p (numberAtom p x)
-      go (Int v q) a = (int-plain, a .0)
-      go (Float q) a = (float-plain, a)
+      go (Int v q) a = (plain (λ made p v. tt) tt, a .0)
+      go (Float q) a = (plain (λ made p v. tt) tt, a)
       go (Bad k q) a = tt
 
   -- what is read a little further on
-  span-atom-on : (k : Kind) (from : ℕ) (o : Place) (r : Must) → shape k .fields ≡ span ∷ [] → Reached s p o → SpanOn s o r → AtomOn s p (spanAtom k from r)
-  span-atom-on k from o (Taken a q) e l g = (one-span k e, advanced-on l g)
+  span-atom-on : (k : Kind) (from : ℕ) (o : Place) (r : Must) → Plain k → Reached s p o → SpanOn s o r → AtomOn s p (spanAtom k from r)
+  span-atom-on k from o (Taken a q) e l g = (e, advanced-on l g)
   span-atom-on k from o (Failed j q) e l g = tt
 
   word-atom-on : (k : ℕ) (q : Place) → Advanced s p q → AtomOn s p (wordAtom k p q)
   word-atom-on k q a =
-      choice P (eqb k 0) (λ t. (one-span kinds.Name refl, a))
-      (λ t. choice P (eqb k 1) (λ t. (no-fields kinds.True refl, a))
-      (λ t. choice P (eqb k 2) (λ t. (no-fields kinds.False refl, a))
-      (λ t. choice P (eqb k 3) (λ t. (no-fields kinds.Nil refl, a)) (λ t. tt))))
+      choice P (eqb k 0) (λ t. (plain (λ made p v. tt) tt, a))
+      (λ t. choice P (eqb k 1) (λ t. (plain (λ made p v. tt) tt, a))
+      (λ t. choice P (eqb k 2) (λ t. (plain (λ made p v. tt) tt, a))
+      (λ t. choice P (eqb k 3) (λ t. (plain (λ made p v. tt) tt, a)) (λ t. tt))))
     where
       P : Atom → Type 0
       P = AtomOn s p
@@ -184,7 +155,7 @@ module _ (s : Text) (p : Place) (h : Stands s p) where
   hash-atom-on : AtomOn s p (hashAtom s p)
   hash-atom-on =
       choice (AtomOn s p) (eqb (byteAt s (p .offset + 1)) 91)
-      (λ t. let r = over-two s p 91 h (eqb-true (byteAt s (p .offset + 1)) 91 t) (omega arith) in span-atom-on kinds.Bytes (p .offset) (onBy 2 p) (bytearray s (onBy 2 p)) refl r (bytearray-spans s (onBy 2 p) (r .stands)))
+      (λ t. let r = over-two s p 91 h (eqb-true (byteAt s (p .offset + 1)) 91 t) (omega arith) in span-atom-on kinds.Bytes (p .offset) (onBy 2 p) (bytearray s (onBy 2 p)) (plain (λ made p v. tt) tt) r (bytearray-spans s (onBy 2 p) (r .stands)))
       (λ t. tt)
 
   sign-atom-on : (b : ℕ) → b ≡ byteAt s (p .offset) → AtomOn s p (signAtom s b p)
@@ -194,7 +165,7 @@ module _ (s : Text) (p : Place) (h : Stands s p) where
       (λ t. choice P (eqb b 123) (λ t. sign 123 t (omega arith))
       (λ t. choice P (eqb b 35) (λ t. hash-atom-on)
       (λ t. choice P (eqb b 36) (λ t. host (sign 36 t (omega arith)))
-      (λ t. choice P (eqb b 124) (λ t. tt) (λ t. tt))))))
+      (λ t. choice P (eqb b 124) (λ t. sign 124 t (omega arith)) (λ t. tt))))))
     where
       P : Atom → Type 0
       P = AtomOn s p
@@ -203,7 +174,7 @@ module _ (s : Text) (p : Place) (h : Stands s p) where
       sign k t l = over-sign k (sym e ∙ eqb-true b k t) l
 
       host : Advanced s p (onBy 1 p) → AtomOn s p (hostAtom s p)
-      host a = span-atom-on kinds.Host (p .offset + 1) (onBy 1 p) (name s (onBy 1 p)) refl (advanced-reached a) (name-spans s (onBy 1 p) (a .stands))
+      host a = span-atom-on kinds.Host (p .offset + 1) (onBy 1 p) (name s (onBy 1 p)) (plain (λ made p v. tt) tt) (advanced-reached a) (name-spans s (onBy 1 p) (a .stands))
 
 -- ---- by the first byte
 
@@ -249,7 +220,7 @@ atom-on s p h = go (isDigit b) refl (isLetter b) refl (isQuote b) refl
     go true d y l z q = subst⁻¹ (AtomOn s p) (atom-digit s b p d) (number-atom-on s p h)
     go false d true l z q = subst⁻¹ (AtomOn s p) (atom-letter s b p d l) (name-atom-on s p h)
     go false d false l true q =
-        subst⁻¹ (AtomOn s p) (atom-quote s b p d l q) (span-atom-on s p h kinds.String (p .offset) p (string s p) refl (reached-here h) (string-on s p h))
+        subst⁻¹ (AtomOn s p) (atom-quote s b p d l q) (span-atom-on s p h kinds.String (p .offset) p (string s p) (plain (λ made p v. tt) tt) (reached-here h) (string-on s p h))
     go false d false l false q = subst⁻¹ (AtomOn s p) (atom-sign s b p d l q) (sign-atom-on s p h b refl)
 
 -- the same of an answer at hand

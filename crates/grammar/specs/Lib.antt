@@ -1,3 +1,4 @@
+pub mod Promises
 pub mod Operators
 pub mod Leaves
 pub mod LeafLaws
@@ -16,8 +17,11 @@ pub mod ChainLaws
 pub mod Keys
 pub mod KeyLaws
 pub mod Refusing
+pub mod HeadRefusing
 pub mod Leads
 pub mod Suits
+pub mod Entries
+pub mod EntryLaws
 pub mod Contracts
 pub mod Reads
 pub mod ReadLaws

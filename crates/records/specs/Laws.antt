@@ -3,3 +3,5 @@ pub mod Kinds
 pub mod Words
 pub mod Rows
 pub mod Nodes
+pub mod Meanings
+pub mod Pools

@@ -1,9 +1,9 @@
 -- THE PROMISES of records in a pool. Read this page first: each theorem is said in document 01's words, and its proof is one citation.
 -- What the words mean stands in Kinds, Words, Rows and Nodes, and in the calculus of reading. Assumes nothing.
 use mathlib.Core.Path.{_≡_}
-use mathlib.Core.List.{List, map}
+use mathlib.Core.List.{List, _++_, map}
 use Prim.Native.Nat.{ℕ, _+_, _*_, _≤_, _<_}
-use lib.ListN.{length, getD}
+use lib.ListN.{length, getD, drop}
 use Rattle.characters.specs.declared.place.Place.{Place}
 use Rattle.reading.specs.declared.tally.Tally.{Tally}
 use Rattle.reading.specs.declared.answer.Out.{Out}
@@ -18,11 +18,12 @@ use Rattle.records.specs.declared.row.Row.{Row}
 use Rattle.records.specs.declared.row.RowAt.the-variants.{Here}
 use Rattle.records.specs.Kinds.{numberOf, kindOf}
 use Rattle.records.specs.Words.{spanWord, spanOf, lowOf, highOf, wholeOf}
-use Rattle.records.specs.Rows.{recordOf, width, layout, capOf, Lent, rowAt, rowsAt}
+use Rattle.records.specs.Rows.{recordOf, width, layout, rowsOf, capOf, Lent, rowAt, rowsAt}
 use Rattle.records.specs.Nodes.{Keeps, valueOf, nodeAt, MakesRow}
 use Rattle.records.specs.Laws.Kinds as Kinds
 use Rattle.records.specs.Laws.Words as Words
 use Rattle.records.specs.Laws.Rows as Rows
+use Rattle.records.specs.Laws.Pools as Pools
 use Rattle.records.specs.Laws.Nodes as Nodes
 
 -- KINDS. Each has one number, and a number stands for one kind at most.
@@ -50,6 +51,11 @@ before rs pool made i h = Rows.laid-before rs pool made i h
 pub past : (rs : List Rec) (pool : List ℕ) (made i : ℕ) → (made + length rs) * width ≤ i
     → getD (laid layout pool made rs) i 0 ≡ getD pool i 0
 past rs pool made i h = Rows.laid-past rs pool made i h
+
+-- Laid from the start on, they are its first words, row after row, and every other word is as it was.
+pub from-the-start : (rs : List Rec) (pool : List ℕ) → length rs * width ≤ length pool
+    → laid layout pool 0 rs ≡ rowsOf rs ++ drop (length rs * width) pool
+from-the-start rs pool h = Pools.laid-whole rs pool h
 
 -- A record "is never altered".
 pub never-altered : (rs : List Rec) (pool : List ℕ) (made n : ℕ) → n ≤ made → rowAt (laid layout pool made rs) n ≡ rowAt pool n

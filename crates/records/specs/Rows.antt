@@ -5,7 +5,7 @@
 -- offsets each fit in thirty-two. Eight is a power of two, so a row's place is a shift. Further fields of 02, a comment's span and a
 -- range, are one word each: they widen the row here, in `lay` and in `row_at`, and no contract above says how wide it is.
 use mathlib.Core.Path.{_≡_}
-use mathlib.Core.List.{List, [], _∷_}
+use mathlib.Core.List.{List, [], _∷_, _++_}
 use mathlib.Core.Bool.{Bool, true, false, _&&_}
 use Prim.Native.Nat.{ℕ, zero, suc, _+_, _-_, _*_, _/_, min, _≤_}
 use lib.Dec.{leb}
@@ -66,6 +66,12 @@ words r =
 unfoldable pub layout : Layout (List ℕ)
 unfolding words
 layout pool made r = sets pool (made * width) (words r)
+
+-- The words of several records, row after row.
+unfoldable pub rowsOf : List Rec → List ℕ
+unfolding words
+rowsOf [] = []
+rowsOf (r ∷ rs) = words r ++ rowsOf rs
 
 -- "The record limit is the number of whole records in the pool, at most 65,535."
 abbrev pub capOf : ℕ → ℕ

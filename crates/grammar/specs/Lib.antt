@@ -1,4 +1,3 @@
-pub mod Promises
 pub mod Operators
 pub mod Leaves
 pub mod LeafLaws
@@ -16,16 +15,9 @@ pub mod Chains
 pub mod ChainLaws
 pub mod Keys
 pub mod KeyLaws
-pub mod Refusing
-pub mod HeadRefusing
 pub mod Leads
-pub mod Suits
-pub mod Entries
-pub mod EntryLaws
 pub mod Contracts
 pub mod Reads
 pub mod ReadLaws
 pub mod Parameters
 pub mod Examples
-pub mod UnitExamples
-pub mod LimitExamples

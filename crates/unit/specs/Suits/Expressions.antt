@@ -19,23 +19,23 @@ use Rattle.reading.specs.Laws.Rules.{Fits, fits-done, fits-stop, fits-make, fit
 use Rattle.records.specs.Kinds as table
 use Rattle.records.specs.Meanings.{Is, MayBe, none, some}
 use Rattle.records.specs.Laws.Meanings.{is-since, is-new, maybe-since}
 use Rattle.grammar.specs.declared.leaves.Prefix.{Prefix}
 use Rattle.grammar.specs.declared.leaves.Prefix.the-variants as prefix
 use Rattle.grammar.specs.declared.leaves.Atom.{Atom}
 use Rattle.grammar.specs.declared.leaves.Atom.the-variants as atom
 use Rattle.grammar.specs.declared.leaves.Postfix.{Postfix}
 use Rattle.grammar.specs.declared.leaves.Postfix.the-variants as post
 use Rattle.grammar.specs.declared.leaves.Suffix.{Suffix}
 use Rattle.grammar.specs.declared.leaves.Suffix.the-variants as suffix
 use Rattle.grammar.specs.declared.leaves.Link.{Link}
 use Rattle.grammar.specs.declared.leaves.Link.the-variants as link
 use Rattle.grammar.specs.Leaves.{prefixOf, atomOf, postfixOf, linkOf, keyAt}
 use Rattle.grammar.specs.LeafLaws.{PrefixOn, prefix-on, PostfixOn, postfix-on, KeyOn, key-on}
 use Rattle.grammar.specs.LinkLaws.{LinkOn, link-on}
 use Rattle.grammar.specs.AtomLaws.{AtomOn, atom-on}
-use Rattle.grammar.specs.Refusing.{MustProper, PrefixProper, prefix-proper, AtomProper, atom-proper, PostfixProper, postfix-proper, key-proper}
+use Rattle.unit.specs.Refusing.{MustProper, PrefixProper, prefix-proper, AtomProper, atom-proper, PostfixProper, postfix-proper, key-proper}
 use Rattle.grammar.specs.Expressions.{expression, operand, lambda, Rule, turns, elementP, listP, newKey, valueP, pairP, dictP, parenP, arrayP, closureP, atomAs, atomP, callP, indexP, extendP, postfixAs, postfixesP, postfixP, minusP, plusP, signP, prefixAs, prefixP, Pending, reduceP, choiceP, linkAs, chainP, expressionP}
-use Rattle.grammar.specs.Suits.Falling.{choice, Works, MayWork, Room, called, below, still, advanced-then, turned, enough, fits-close, fits-follow, fits-token, fits-expected}
+use Rattle.unit.specs.Suits.Falling.{choice, Works, MayWork, Room, called, below, still, advanced-then, turned, enough, fits-close, fits-follow, fits-token, fits-expected}
 
 -- ---- keys
 

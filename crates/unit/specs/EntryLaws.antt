@@ -32,11 +32,11 @@ use Rattle.records.specs.Rows.{width, layout, capOf, rowsOf}
 use Rattle.records.specs.Meanings.{AllMeant}
 use Rattle.records.specs.Laws.Rows.{laid-length, laid-past}
 use Rattle.records.specs.Laws.Pools.{laid-whole, laid-alike}
 use Rattle.grammar.specs.Grammar.{grammar}
 use Rattle.grammar.specs.Units.{unitP, startOf, opening, full}
-use Rattle.grammar.specs.Suits.Falling.{choice}
-use Rattle.grammar.specs.Suits.Units.{levels, suits}
-use Rattle.grammar.specs.Entries.{callOf, recordsBy, Reads, whole, Told, Raised}
+use Rattle.unit.specs.Suits.Falling.{choice}
+use Rattle.unit.specs.Suits.Units.{levels, suits}
+use Rattle.unit.specs.Entries.{callOf, recordsBy, Reads, whole, Told, Raised}
 
 -- ---- texts that are short, and texts that are not
 

@@ -23,24 +23,24 @@ use Rattle.records.specs.Kinds as table
 use Rattle.records.specs.Rows.{recordOf}
 use Rattle.records.specs.Meanings.{isA, Is, MayBe, none, some, Meant}
 use Rattle.records.specs.Laws.Meanings.{is-since, is-new, maybe-since}
 use Rattle.grammar.specs.declared.heads.StatementHead.{StatementHead}
 use Rattle.grammar.specs.declared.heads.StatementHead.the-variants as head
 use Rattle.grammar.specs.declared.heads.StepHead.{StepHead}
 use Rattle.grammar.specs.declared.heads.StepHead.the-variants as steps
 use Rattle.grammar.specs.declared.heads.Assignment.{Assignment}
 use Rattle.grammar.specs.declared.heads.Assignment.the-variants.{Sign, Absent}
 use Rattle.grammar.specs.declared.heads.LetHead.{LetHead}
 use Rattle.grammar.specs.declared.heads.LetHead.the-variants as lets
 use Rattle.grammar.specs.Leaves.{rowOf, leafRow}
 use Rattle.grammar.specs.Heads.{headOf, stepOf, assignOf, letOf}
 use Rattle.grammar.specs.HeadLaws.{HeadOn, head-on, StepOn, step-on, AssignOn, assign-on, LetOn, let-on}
-use Rattle.grammar.specs.HeadRefusing.{HeadProper, head-proper, StepProper, step-proper, LetProper, let-proper}
+use Rattle.unit.specs.HeadRefusing.{HeadProper, head-proper, StepProper, step-proper, LetProper, let-proper}
 use Rattle.grammar.specs.Expressions.{Rule, expression, statement, function}
 use Rattle.grammar.specs.Functions.{nameWord}
 use Rattle.grammar.specs.Statements.{absent, returnP, jumpP, conditionP, controlBodyP, elseP, ifP, forEndP, loopP, whileP, targetP, combineP, storeP, incrementP, doP, assignAs, exprOrAssignAs, exprOrAssignP, firstPartP, testPartP, thirdPartP, forRestP, forP, assertP, declareP, letAs, letP, funStatementP, statementAs, statementP}
-use Rattle.grammar.specs.Suits.Falling.{choice, Works, MayWork, Room, called, lighter, below, still, advanced-then, fits-token, fits-expected}
-use Rattle.grammar.specs.Suits.Expressions.{paren-works, postfix-works}
-use Rattle.grammar.specs.Suits.Functions.{fits-name-of, fits-keyword, block-works}
+use Rattle.unit.specs.Suits.Falling.{choice, Works, MayWork, Room, called, lighter, below, still, advanced-then, fits-token, fits-expected}
+use Rattle.unit.specs.Suits.Expressions.{paren-works, postfix-works}
+use Rattle.unit.specs.Suits.Functions.{fits-name-of, fits-keyword, block-works}
 
 -- What may be none is one where its number is not 0.
 present : {made : List Rec} {m : Meaning} {k : ℕ} → MayBe made m k → eqb k 0 ≡ false → Is made m k

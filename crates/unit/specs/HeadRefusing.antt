@@ -14,18 +14,18 @@ use Rattle.characters.specs.Names.{isLetter, name, freeBy, freeName, part, word
 use Rattle.characters.specs.Tokens.{foundBy, isKeyword, keywordPast, token, keyword, expected}
 use Rattle.literals.specs.NumberLaws.{choice}
 use Rattle.reading.specs.Suits.{proper}
 use Rattle.grammar.specs.declared.heads.StatementHead.{StatementHead}
 use Rattle.grammar.specs.declared.heads.StatementHead.the-variants as head
 use Rattle.grammar.specs.declared.heads.StepHead.{StepHead}
 use Rattle.grammar.specs.declared.heads.StepHead.the-variants as steps
 use Rattle.grammar.specs.declared.heads.LetHead.{LetHead}
 use Rattle.grammar.specs.declared.heads.LetHead.the-variants as lets
 use Rattle.grammar.specs.declared.heads.ClassHead.{ClassHead}
 use Rattle.grammar.specs.declared.heads.ClassHead.the-variants as classes
 use Rattle.grammar.specs.declared.heads.ItemHead.{ItemHead}
 use Rattle.grammar.specs.declared.heads.ItemHead.the-variants as item
 use Rattle.grammar.specs.Heads.{namePast, nameOf, wordHead, nameHead, headPast, headOf, stepPast, stepOf, endOf, letTo, letNamed, letBy, letOf, openedBy, parentBy, classBy, classOf, itemPast, itemOf}
-use Rattle.grammar.specs.Refusing.{MustProper, LookProper, blanks-proper, name-proper, token-proper, expected-proper}
+use Rattle.unit.specs.Refusing.{MustProper, LookProper, blanks-proper, name-proper, token-proper, expected-proper}
 
 -- ---- names and keywords
 

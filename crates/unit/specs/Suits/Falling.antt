@@ -19,11 +19,11 @@ use Rattle.reading.specs.Laws.Rules.{Fits, fits-look, fits-must}
 use Rattle.records.specs.Kinds.{Meaning}
 use Rattle.records.specs.Kinds as table
 use Rattle.records.specs.Meanings.{Is, MayBe, Meant}
 use Rattle.grammar.specs.Leaves.{closeOf, followOf}
 use Rattle.grammar.specs.LeafLaws.{CloseOn, close-on}
 use Rattle.grammar.specs.Leads.{ExpectedOn, expected-leads, FollowOn, follow-leads}
-use Rattle.grammar.specs.Refusing.{MustProper, LookProper, token-proper, expected-proper, close-proper, follow-proper}
+use Rattle.unit.specs.Refusing.{MustProper, LookProper, token-proper, expected-proper, close-proper, follow-proper}
 use Rattle.grammar.specs.Expressions.{Routine, expression, before-assignment, operand, statement, function, lambda, class, Rule, turns}
 
 -- ---- what is chosen
 

@@ -23,11 +23,11 @@ use Rattle.reading.specs.Promises.{before-reading}
 use Rattle.reading.specs.Says.{laid}
 use Rattle.records.specs.Rows.{width, layout, capOf, rowsOf}
 use Rattle.records.specs.Meanings.{AllMeant}
 use Rattle.grammar.specs.Grammar.{grammar}
 use Rattle.grammar.specs.Units.{unitP, startOf, opening, full}
-use Rattle.grammar.specs.Suits.Units.{levels}
-use Rattle.grammar.specs.Entries.{callOf, recordsBy, Reads, whole, Told, Raised}
-use Rattle.grammar.specs.EntryLaws as Entry
+use Rattle.unit.specs.Suits.Units.{levels}
+use Rattle.unit.specs.Entries.{callOf, recordsBy, Reads, whole, Told, Raised}
+use Rattle.unit.specs.EntryLaws as Entry
 
 -- ---- DEMAND 1: what a call answers is determined
 

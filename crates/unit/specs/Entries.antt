@@ -12,9 +12,9 @@ use Rattle.reading.specs.Process.{unlimited}
 use Rattle.reading.specs.Answers.{refusalOf, answerOf}
 use Rattle.reading.specs.Says.{laid}
 use Rattle.records.specs.Rows.{width, layout, capOf}
 use Rattle.grammar.specs.Grammar.{grammar}
 use Rattle.grammar.specs.Units.{unitP, startOf, full}
-use Rattle.grammar.specs.Suits.Units.{levels}
+use Rattle.unit.specs.Suits.Units.{levels}
 
 -- What a call is, by the pool that it is lent. "The record limit is the number of whole records in the pool, at most 65,535."
 abbrev pub callOf : Text → List ℕ → ℕ → ℕ → Bool → Outcome

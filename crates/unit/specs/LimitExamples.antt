@@ -10,7 +10,7 @@ use Rattle.characters.specs.Text.{Text, ascii}
 use Rattle.reading.specs.Events.{Rec, recordsOf, comparisonsOf}
 use Rattle.reading.specs.Answers.{answerOf}
 use Rattle.records.specs.Rows.{words}
-use Rattle.grammar.specs.UnitExamples.{entered, unit, says, Answers, Nested, Pooled, Compared}
+use Rattle.unit.specs.UnitExamples.{entered, unit, says, Answers, Nested, Pooled, Compared}
 
 -- ---- rows, with no row function of the rules on the other side
 

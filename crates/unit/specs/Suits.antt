@@ -6,4 +6,3 @@ pub mod Functions
 pub mod Statements
 pub mod Classes
 pub mod Units
-pub mod Stub

@@ -16,16 +16,16 @@ use Rattle.reading.specs.Laws.Rules.{Fits, fits-done, fits-stop, fits-make, fit
 use Rattle.records.specs.Kinds as table
 use Rattle.records.specs.Meanings.{Is, MayBe, none, some}
 use Rattle.records.specs.Laws.Meanings.{is-new, maybe-since}
 use Rattle.grammar.specs.declared.heads.ClassHead.{ClassHead}
 use Rattle.grammar.specs.declared.heads.ClassHead.the-variants.{Opened, Wrong}
 use Rattle.grammar.specs.Heads.{classOf}
 use Rattle.grammar.specs.HeadLaws.{ClassOn, class-on}
-use Rattle.grammar.specs.HeadRefusing.{ClassProper, class-proper}
+use Rattle.unit.specs.HeadRefusing.{ClassProper, class-proper}
 use Rattle.grammar.specs.Expressions.{function, turns}
 use Rattle.grammar.specs.Functions.{nameWord}
 use Rattle.grammar.specs.Classes.{isInit, methodEndP, methodP, methodsP, classEndP, classAs, classP}
-use Rattle.grammar.specs.Suits.Falling.{choice, Works, MayWork, Room, called, still, beyond, advanced-then, turned, enough, fits-close}
-use Rattle.grammar.specs.Suits.Functions.{fits-name, fits-name-of, fits-new-name}
+use Rattle.unit.specs.Suits.Falling.{choice, Works, MayWork, Room, called, still, beyond, advanced-then, turned, enough, fits-close}
+use Rattle.unit.specs.Suits.Functions.{fits-name, fits-name-of, fits-new-name}
 
 module _ (s : Text) (M : ℕ) where
   -- A method's item refers to its function and to the item before; an `init` without parameter is refused by 32.

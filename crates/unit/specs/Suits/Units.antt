@@ -22,19 +22,19 @@ use Rattle.records.specs.Kinds as table
 use Rattle.records.specs.Rows.{recordOf}
 use Rattle.records.specs.Meanings.{Is, MayBe, none, some}
 use Rattle.records.specs.Laws.Meanings.{is-since, is-new, maybe-since, meant-earlier}
 use Rattle.grammar.specs.declared.heads.ItemHead.{ItemHead}
 use Rattle.grammar.specs.declared.heads.ItemHead.the-variants.{End, Class, Statement, Wrong}
 use Rattle.grammar.specs.Heads.{itemOf}
 use Rattle.grammar.specs.HeadLaws.{ItemOn, item-on}
-use Rattle.grammar.specs.HeadRefusing.{ItemProper, item-proper}
+use Rattle.unit.specs.HeadRefusing.{ItemProper, item-proper}
 use Rattle.grammar.specs.Expressions.{Routine, expression, before-assignment, operand, statement, function, lambda, class, turns, statedRow}
 use Rattle.grammar.specs.Grammar.{grammar}
 use Rattle.grammar.specs.Units.{Declared, nothing, declaredName, unitItemP, classItemP, unitEndP, itemAs, itemsP, unitP, startOf}
-use Rattle.grammar.specs.Suits.Falling.{Begins, choice, Works, Room, called, still, advanced-then, turned, enough}
-use Rattle.grammar.specs.Suits.Expressions.{prefix-works, expression-works}
-use Rattle.grammar.specs.Suits.Functions.{fits-keyword, fits-new-name, function-works, lambda-works}
-use Rattle.grammar.specs.Suits.Statements.{statement-works}
-use Rattle.grammar.specs.Suits.Classes.{class-works}
+use Rattle.unit.specs.Suits.Falling.{Begins, choice, Works, Room, called, still, advanced-then, turned, enough}
+use Rattle.unit.specs.Suits.Expressions.{prefix-works, expression-works}
+use Rattle.unit.specs.Suits.Functions.{fits-keyword, fits-new-name, function-works, lambda-works}
+use Rattle.unit.specs.Suits.Statements.{statement-works}
+use Rattle.unit.specs.Suits.Classes.{class-works}
 
 -- ---- the unit
 

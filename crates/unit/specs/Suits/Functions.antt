@@ -27,13 +27,13 @@ use Rattle.reading.specs.Laws.Rules.{Fits, fits-done, fits-stop, fits-make, fit
 use Rattle.records.specs.Kinds as table
 use Rattle.records.specs.Meanings.{Is, MayBe, none, some}
 use Rattle.records.specs.Laws.Meanings.{is-new, maybe-since}
 use Rattle.grammar.specs.Heads.{nameOf, endOf}
 use Rattle.grammar.specs.HeadLaws.{NameOn, name-of-on, EndOn, end-on}
-use Rattle.grammar.specs.Refusing.{MustProper, LookProper, name-proper}
-use Rattle.grammar.specs.HeadRefusing.{free-proper, name-of-proper, keyword-proper, end-proper}
+use Rattle.unit.specs.Refusing.{MustProper, LookProper, name-proper}
+use Rattle.unit.specs.HeadRefusing.{free-proper, name-of-proper, keyword-proper, end-proper}
 use Rattle.grammar.specs.Expressions.{Rule, expression, statement, turns}
 use Rattle.grammar.specs.Functions.{newName, paramP, paramsP, parametersP, blockItemP, statementsP, blockP, funP, bodyBlockP, functionP, impliedReturnP, lambdaBodyP, lambdaP}
-use Rattle.grammar.specs.Suits.Falling.{choice, Works, MayWork, Room, called, still, beyond, advanced-then, turned, enough, fits-close, fits-follow, fits-token, fits-expected}
+use Rattle.unit.specs.Suits.Falling.{choice, Works, MayWork, Room, called, still, beyond, advanced-then, turned, enough, fits-close, fits-follow, fits-token, fits-expected}
 
 -- ---- by what the leaves find
 

@@ -1,0 +1,1 @@
+// The unit as a whole. Its promises stand in specs/Promises.antt, the contract of its entries in specs/Entries.antt.

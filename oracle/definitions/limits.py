@@ -3,7 +3,7 @@
 
   limits.py [COUNT]    COUNT generated texts (default 16000), beside the stored and the listed ones
 
-Each listed text, and each stored one of oracle/answers.txt, is read with every pool size up to the records of the unlimited
+Each listed text, each of the proved examples and each stored one of oracle/answers.txt is read with every pool size up to the records of the unlimited
 reading, with many nesting limits, and with every comparison limit up to the count. Each generated text is read with random
 limits. Compared are number, place, both counts and every word of every record.
 
@@ -16,6 +16,7 @@ demand 3`. The status is 1 if there is any.
 
 import concurrent.futures
 import os
+import re
 import subprocess
 import sys
 
@@ -50,6 +51,20 @@ LISTED = [
     "fun f(" + ", ".join("a%d" % k for k in range(24)) + ") {}", "x = {%s};" % ", ".join("a%d" % k for k in range(24)),
     b"\xff", b"f\xc3\xa9\n\xed\xa0\x80", "\u00e9", " " * 65535, " " * 65536, b"\xff" * 65536,
 ]
+
+
+QUOTED = r'\(ascii "((?:[^"\\]|\\.)*)"\)'       # a text as the examples write it
+
+
+def unquoted(text):
+    return re.sub(r"\\(.)", lambda m: {"n": "\n", "t": "\t", "r": "\r"}.get(m[1], m[1]), text)
+
+
+def examples():
+    """What the proved examples say, as they are written."""
+    for name in ("UnitExamples", "LimitExamples"):
+        with open(os.path.join(compare.ROOT, "crates", "grammar", "specs", name + ".antt"), encoding="utf-8") as file:
+            yield file.read()
 
 
 def numbers_to(last):
@@ -161,7 +176,7 @@ def compared(part):
 
 def chosen(count):
     """Texts with form, and how their limits are drawn."""
-    for text in LISTED:
+    for text in LISTED + [unquoted(found) for file in examples() for found in re.findall(QUOTED, file)]:
         yield text, "string", sweep, ()
     for text in compare.stored([os.path.join(compare.ROOT, "oracle", "answers.txt")]):
         yield text, "string", sweep, ()

@@ -7,11 +7,11 @@ Each slip is put into a copy of crates/*/specs, and the copy becomes a model of 
   examples   the texts and limits of UnitExamples.antt and LimitExamples.antt: what they prove would no longer hold
   replays    the stored texts of oracle/answers.txt: the record of a whole tree, or number and place, would no longer be the engine's
   second     calls under limits: the answer would no longer be the second reading's
-Of UnitExamples.antt the five numbers of an answer alone count, because the rules' row functions stand on both sides there. Of the
-second reading, calls are asked until one differs.
+Of UnitExamples.antt the five numbers of an answer alone count, because the rules' row functions stand on both sides there. The stored
+texts are asked where the examples don't tell. Of the second reading, calls are asked until one differs, those of the examples first.
 
-Prints a line for each slip that one of the three doesn't tell, then `N slips: ..`. The status is 1 if a slip survives examples and
-replays together, or the second reading. Needs what limits.py needs, and `python3 oracle/definitions/model.py` run before.
+Prints a line for each slip that the examples don't tell, or that survives, then `N slips: ..`. A slip survives if examples and
+replays together don't tell it, or the second reading doesn't. The status is 1 if one does. Needs what limits.py needs, and `python3 oracle/definitions/model.py` run before.
 """
 
 import concurrent.futures
@@ -28,7 +28,6 @@ import compare
 import limits
 
 HERE = compare.HERE
-SPECS = os.path.join("crates", "grammar", "specs")
 CHUNK = 150         # calls that are asked before the answers are looked at
 LONG = 1000         # a text of more bytes is left to the last chunks
 
@@ -59,7 +58,7 @@ def operators(answer):
     return [words[at + 4] for at in range(0, len(words), 8) if words[at] == "17"]
 
 
-QUOTED = r'\(ascii "((?:[^"\\]|\\.)*)"\)'
+QUOTED = limits.QUOTED
 MOST = 4294967295
 SHAPES = [
     # how an example is written, its text with limits and form, and what it states
@@ -83,14 +82,11 @@ UNWRITTEN = [(b" " * 65536, "string", (1024, 0, 0)), (b" " * 65535, "string", (1
 def example_calls():
     """The calls of the examples, and what each example states."""
     calls, states = list(UNWRITTEN), [five] * len(UNWRITTEN)
-    for name in ("UnitExamples", "LimitExamples"):
-        with open(os.path.join(compare.ROOT, SPECS, name + ".antt"), encoding="utf-8") as file:
-            text = file.read()
+    for text in limits.examples():
         for pattern, read, stated in SHAPES:
             for found in re.finditer(pattern, text):
                 quoted, limit, form = read(found)
-                quoted = re.sub(r"\\(.)", lambda m: {"n": "\n", "t": "\t", "r": "\r"}.get(m[1], m[1]), quoted)
-                calls.append((quoted.encode(), form, limit))
+                calls.append((limits.unquoted(quoted).encode(), form, limit))
                 states.append(stated)
     return calls, states
 
@@ -135,54 +131,57 @@ def trees(model, texts):
 
 
 class Base:
-    """What the definitions say without a slip."""
+    """What the definitions say without a slip, and the second reading."""
 
     def __init__(self):
         self.calls, self.states = example_calls()
-        self.examples = self.stated(compare.MODEL)
+        self.examples = self.stated(ask(compare.MODEL, self.calls))
         self.stored = list(compare.stored([os.path.join(compare.ROOT, "oracle", "answers.txt")]))
         self.trees = trees(compare.MODEL, self.stored)
-        self.limited = list(self.drawn_calls())
-        self.second = limits.second(self.limited)
+        self.further = list(further_calls())
+        self.second = limits.second(self.calls), limits.second(self.further)
 
-    def stated(self, model):
-        return [states(answer) for states, answer in zip(self.states, ask(model, self.calls))]
+    def stated(self, answers):
+        return [states(answer) for states, answer in zip(self.states, answers)]
 
-    def drawn_calls(self):
-        """The texts of limits.py that are listed or stored, and some generated ones, with their limits."""
-        chosen = [(text.encode() if isinstance(text, str) else text, *rest) for text, *rest in limits.chosen(400)]
-        # Short ones first, and the highest limits before the others: most slips are told at once.
-        chosen.sort(key=lambda one: len(one[0]) > LONG)
-        yield from [(text, form, limits.HIGHEST) for text, form, _, _ in chosen if len(text) <= LONG][::6]
-        reached = limits.second([(text, form, limits.HIGHEST) for text, form, _, _ in chosen])
-        for (text, form, how, more), answer in zip(chosen, reached):
-            needs = tuple(limits.split(answer)[0][3:])
-            yield from ((text, form, one) for one in how(*more, needs))
-
-    def told_by_second(self, model):
-        for at in range(0, len(self.limited), CHUNK):
-            if ask(model, self.limited[at:at + CHUNK]) != self.second[at:at + CHUNK]:
-                return True
-        return False
+    def told_further(self, model):
+        parts = (slice(at, at + CHUNK) for at in range(0, len(self.further), CHUNK))
+        return any(ask(model, self.further[part]) != self.second[1][part] for part in parts)
 
     def told(self, slip):
+        """Whether examples, replays and second reading tell it."""
         with tempfile.TemporaryDirectory() as folder:
             model = copy_with(slip, folder)
-            return (self.stated(model) != self.examples, trees(model, self.stored) != self.trees,
-                    self.told_by_second(model))
+            answers = ask(model, self.calls)
+            by_examples = self.stated(answers) != self.examples
+            by_replays = not by_examples and trees(model, self.stored) != self.trees
+            return by_examples, by_replays, answers != self.second[0] or self.told_further(model)
+
+
+def further_calls():
+    """The texts of limits.py, of the generated ones some, with their limits; the long ones last."""
+    chosen = [(text.encode() if isinstance(text, str) else text, *rest) for text, *rest in limits.chosen(400)]
+    chosen.sort(key=lambda one: len(one[0]) > LONG)
+    reached = limits.second([(text, form, limits.HIGHEST) for text, form, _, _ in chosen])
+    for (text, form, how, more), answer in zip(chosen, reached):
+        needs = tuple(limits.split(answer)[0][3:])
+        yield from ((text, form, one) for one in how(*more, needs))
 
 
 def main():
     every = list(slips(sys.argv[1] if len(sys.argv) > 1 else ""))
     base = Base()
-    names, counts, survivors = ("examples", "replays", "second"), [0, 0, 0], 0
+    counts, survivors = [0, 0, 0], 0
     with concurrent.futures.ThreadPoolExecutor(os.cpu_count()) as pool:
         for slip, told in zip(every, pool.map(base.told, every)):
             counts = [count + one for count, one in zip(counts, told)]
-            survivors += not (told[0] or told[1]) or not told[2]
-            if not all(told):
-                print("%s: not told by %s" % (slip[0], ", ".join(name for name, one in zip(names, told) if not one)), flush=True)
-    print("%d slips: %d told by examples, %d by replays, %d by the second reading; %d survive" % (len(every), *counts, survivors))
+            survives = not (told[0] or told[1]) or not told[2]
+            survivors += survives
+            if survives or not told[0]:
+                by = [name for name, one in zip(("examples", "replays", "second reading"), told) if one]
+                print("%s: told by %s%s" % (slip[0], ", ".join(by) or "nothing", "; SURVIVES" if survives else ""), flush=True)
+    print("%d slips: %d told by the examples, %d more by the stored answers, %d by the second reading; %d survive"
+          % (len(every), *counts, survivors))
     sys.exit(1 if survivors else 0)
 
 

@@ -14,7 +14,7 @@ use Rattle.reading.specs.Says.{laid}
 use Rattle.records.specs.Rows.{width, layout, capOf}
 use Rattle.grammar.specs.Grammar.{grammar}
 use Rattle.grammar.specs.Units.{unitP, startOf, full}
-use Rattle.unit.specs.Suits.Units.{levels}
+use Rattle.unit.specs.Suits.Units.{enoughLevels}
 
 -- What a call is, by the pool that it is lent. "The record limit is the number of whole records in the pool, at most 65,535."
 abbrev pub callOf : Text → List ℕ → ℕ → ℕ → Bool → Outcome
@@ -35,8 +35,8 @@ abbrev pub ReadsShort : Text → Answer → List ℕ → List ℕ → Type 0
 ReadsShort s r before later = Reads s 64 100000 false r before later
 
 -- THE UNLIMITED READING of a unit: "the same one with no limit behind 5, 6 and 7".
-abbrev pub whole : Text → Bool → Outcome
-whole s file = unlimited (grammar s) (unitP s (startOf file s)) (levels s)
+abbrev pub unlimitedUnit : Text → Bool → Outcome
+unlimitedUnit s file = unlimited (grammar s) (unitP s (startOf file s)) (enoughLevels s)
 
 -- An ending that 01 has a number for: every one but that of a loop that ran out of turns.
 abbrev pub Told : End → Type 0

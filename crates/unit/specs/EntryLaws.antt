@@ -34,9 +34,9 @@ use Rattle.records.specs.Laws.Rows.{laid-length, laid-past}
 use Rattle.records.specs.Laws.Pools.{laid-whole, laid-alike}
 use Rattle.grammar.specs.Grammar.{grammar}
 use Rattle.grammar.specs.Units.{unitP, startOf, opening, full}
-use Rattle.unit.specs.Suits.Falling.{choice}
-use Rattle.unit.specs.Suits.Units.{levels, suits}
-use Rattle.unit.specs.Entries.{callOf, recordsBy, Reads, whole, Told, Raised}
+use Rattle.unit.specs.Suits.Falling.{chosen}
+use Rattle.unit.specs.Suits.Units.{enoughLevels, suits}
+use Rattle.unit.specs.Entries.{callOf, recordsBy, Reads, unlimitedUnit, Told, Raised}
 
 -- ---- texts that are short, and texts that are not
 
@@ -55,14 +55,14 @@ module _ (s : Text) (cap nest comps : ℕ) (file : Bool) where
   abbrev L : Limits
   L = limited nest cap comps
 
-  pub full-exact : full s cap nest comps file ≡ opened (opening s) L (cut L start (whole s file))
+  pub full-exact : full s cap nest comps file ≡ opened (opening s) L (cut L start (unlimitedUnit s file))
   unfolding full
   full-exact = go (leb (length s) 65535) refl
     where
       go : (b : Bool) → leb (length s) 65535 ≡ b
-          → entry (grammar s) (unitP s (startOf file s)) (opening s) L ≡ opened (opening s) L (cut L start (whole s file))
-      go true e = reads.exact (grammar s) (choice s) (unitP s (startOf file s)) (levels s) (suits s file (leb-true (length s) 65535 e)) (opening s) L
-      go false e = entry-long (grammar s) (unitP s (startOf file s)) (opening s) L e ∙ sym (opened-long (opening s) L (cut L start (whole s file)) e)
+          → entry (grammar s) (unitP s (startOf file s)) (opening s) L ≡ opened (opening s) L (cut L start (unlimitedUnit s file))
+      go true e = reads.exact (grammar s) (chosen s) (unitP s (startOf file s)) (enoughLevels s) (suits s file (leb-true (length s) 65535 e)) (opening s) L
+      go false e = entry-long (grammar s) (unitP s (startOf file s)) (opening s) L e ∙ sym (opened-long (opening s) L (cut L start (unlimitedUnit s file)) e)
 
   pub full-told : Told (full s cap nest comps file .end)
   unfolding full entry
@@ -76,7 +76,7 @@ module _ (s : Text) (cap nest comps : ℕ) (file : Bool) where
       go : (b : Bool) → leb (length s) 65535 ≡ b → Told (opened (opening s) L (reading (grammar s) L (unitP s (startOf file s))) .end)
       go true e =
           let o : Outcome = reading (grammar s) L (unitP s (startOf file s)) in
-          let t : Told (o .end) = told-by (o .end) (reading-ends (grammar s) (choice s) (unitP s (startOf file s)) (levels s) (suits s file (leb-true (length s) 65535 e)) L) in
+          let t : Told (o .end) = told-by (o .end) (reading-ends (grammar s) (chosen s) (unitP s (startOf file s)) (enoughLevels s) (suits s file (leb-true (length s) 65535 e)) L) in
           subst⁻¹ (λ (f : Bool). Told (gated f (permitted L) (opening s .sound) (opening s .prefix) o .end)) e (gate (permitted L) (opening s .sound) (opening s .prefix) o t)
       go false e = subst⁻¹ (λ (o : Outcome). Told (o .end)) (opened-long (opening s) L (reading (grammar s) L (unitP s (startOf file s))) e) tt
 
@@ -89,20 +89,20 @@ module _ (s : Text) (cap nest comps : ℕ) (file : Bool) where
   full-earlier = go (leb (length s) 65535) refl
     where
       go : (b : Bool) → leb (length s) 65535 ≡ b → AllEarlier 0 (recordsOf (entry (grammar s) (unitP s (startOf file s)) (opening s) L .events))
-      go true e = reads.earlier (grammar s) (choice s) (unitP s (startOf file s)) (levels s) (suits s file (leb-true (length s) 65535 e)) (opening s) L
+      go true e = reads.earlier (grammar s) (chosen s) (unitP s (startOf file s)) (enoughLevels s) (suits s file (leb-true (length s) 65535 e)) (opening s) L
       go false e = subst⁻¹ (λ (o : Outcome). AllEarlier 0 (recordsOf (o .events))) (entry-long (grammar s) (unitP s (startOf file s)) (opening s) L e) tt
 
   pub full-meant : AllMeant [] (recordsOf (full s cap nest comps file .events))
   unfolding full recordsOf
   full-meant = go (leb (length s) 65535) refl
     where
-      all-meant : (before rs : List Rec) → AllFine (choice s) before rs → AllMeant before rs
+      all-meant : (before rs : List Rec) → AllFine (chosen s) before rs → AllMeant before rs
       all-meant before [] h = tt
       all-meant before (r ∷ rs) h = (h .0, all-meant (before ++ (r ∷ [])) rs (h .1))
 
       go : (b : Bool) → leb (length s) 65535 ≡ b → AllMeant [] (recordsOf (entry (grammar s) (unitP s (startOf file s)) (opening s) L .events))
       go true e =
-          all-meant [] (recordsOf (entry (grammar s) (unitP s (startOf file s)) (opening s) L .events)) (reads.fine (grammar s) (choice s) (unitP s (startOf file s)) (levels s) (suits s file (leb-true (length s) 65535 e)) (opening s) L)
+          all-meant [] (recordsOf (entry (grammar s) (unitP s (startOf file s)) (opening s) L .events)) (reads.fine (grammar s) (chosen s) (unitP s (startOf file s)) (enoughLevels s) (suits s file (leb-true (length s) 65535 e)) (opening s) L)
       go false e = subst⁻¹ (λ (o : Outcome). AllMeant [] (recordsOf (o .events))) (entry-long (grammar s) (unitP s (startOf file s)) (opening s) L e) tt
 
   -- ---- before reading
@@ -130,24 +130,24 @@ module _ (s : Text) (cap nest comps : ℕ) (file : Bool) where
 
   module _ (l : length s ≤ 65535) (u : wellFormed s ≡ true) (a : 1 ≤ nest) (b : nest ≤ 256) where
     pub full-exactly : (w : Which)
-        → (answerOf (full s cap nest comps file) .number ≡ numberOf (refusalOf w)) ↔ ((p : Place) × Crosses L start (whole s file .events) w p)
+        → (answerOf (full s cap nest comps file) .number ≡ numberOf (refusalOf w)) ↔ ((p : Place) × Crosses L start (unlimitedUnit s file .events) w p)
     unfolding full
     full-exactly w =
-        reads.exactly (grammar s) (choice s) (unitP s (startOf file s)) (levels s) (suits s file l) (opening s) L w (le-leb (length s) 65535 l) (permitted-by L a b) u
+        reads.exactly (grammar s) (chosen s) (unitP s (startOf file s)) (enoughLevels s) (suits s file l) (opening s) L w (le-leb (length s) 65535 l) (permitted-by L a b) u
 
-    pub full-crossed : (w : Which) (p : Place) → (full s cap nest comps file .end ≡ Crossed w p) ↔ Crosses L start (whole s file .events) w p
+    pub full-crossed : (w : Which) (p : Place) → (full s cap nest comps file .end ≡ Crossed w p) ↔ Crosses L start (unlimitedUnit s file .events) w p
     unfolding full
     full-crossed w p =
-        reads.crossed (grammar s) (choice s) (unitP s (startOf file s)) (levels s) (suits s file l) (opening s) L w p (le-leb (length s) 65535 l) (permitted-by L a b) u
+        reads.crossed (grammar s) (chosen s) (unitP s (startOf file s)) (enoughLevels s) (suits s file l) (opening s) L w p (le-leb (length s) 65535 l) (permitted-by L a b) u
 
 -- ---- the unlimited reading
 
-pub whole-ends : (s : Text) (file : Bool) → length s ≤ 65535 → Proper (whole s file .end)
-whole-ends s file l = reads.ends (grammar s) (choice s) (unitP s (startOf file s)) (levels s) (suits s file l)
+pub unlimited-ends : (s : Text) (file : Bool) → length s ≤ 65535 → Proper (unlimitedUnit s file .end)
+unlimited-ends s file l = reads.ends (grammar s) (chosen s) (unitP s (startOf file s)) (enoughLevels s) (suits s file l)
 
-pub whole-stable : (s : Text) (file : Bool) → length s ≤ 65535 → (more : ℕ) → levels s ≤ more
-    → whole s file ≡ unlimited (grammar s) (unitP s (startOf file s)) more
-whole-stable s file l more m = reads.stable (grammar s) (choice s) (unitP s (startOf file s)) (levels s) (suits s file l) more m
+pub unlimited-stable : (s : Text) (file : Bool) → length s ≤ 65535 → (more : ℕ) → enoughLevels s ≤ more
+    → unlimitedUnit s file ≡ unlimited (grammar s) (unitP s (startOf file s)) more
+unlimited-stable s file l more m = reads.stable (grammar s) (chosen s) (unitP s (startOf file s)) (enoughLevels s) (suits s file l) more m
 
 -- ---- two calls, the second's limits each at least the first's
 

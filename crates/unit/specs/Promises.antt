@@ -25,8 +25,8 @@ use Rattle.records.specs.Rows.{width, layout, capOf, rowsOf}
 use Rattle.records.specs.Meanings.{AllMeant}
 use Rattle.grammar.specs.Grammar.{grammar}
 use Rattle.grammar.specs.Units.{unitP, startOf, opening, full}
-use Rattle.unit.specs.Suits.Units.{levels}
-use Rattle.unit.specs.Entries.{callOf, recordsBy, Reads, whole, Told, Raised}
+use Rattle.unit.specs.Suits.Units.{enoughLevels}
+use Rattle.unit.specs.Entries.{callOf, recordsBy, Reads, unlimitedUnit, Told, Raised}
 use Rattle.unit.specs.EntryLaws as Entry
 
 -- ---- DEMAND 1: what a call answers is determined
@@ -74,7 +74,7 @@ module _ (s : Text) (cap nest comps : ℕ) (file : Bool) where
 
   -- ---- DEMAND 2: it is the unlimited reading, stopped at the first event that is over a limit
 
-  pub exact : full s cap nest comps file ≡ opened (opening s) (limited nest cap comps) (cut (limited nest cap comps) start (whole s file))
+  pub exact : full s cap nest comps file ≡ opened (opening s) (limited nest cap comps) (cut (limited nest cap comps) start (unlimitedUnit s file))
   exact = Entry.full-exact s cap nest comps file
 
   -- ---- RECORDS
@@ -88,12 +88,12 @@ module _ (s : Text) (cap nest comps : ℕ) (file : Bool) where
   meant = Entry.full-meant s cap nest comps file
 
 -- The unlimited reading has read the unit, or a rule refused it; and more levels change nothing.
-pub ends : (s : Text) (file : Bool) → length s ≤ 65535 → Proper (whole s file .end)
-ends s file l = Entry.whole-ends s file l
+pub ends : (s : Text) (file : Bool) → length s ≤ 65535 → Proper (unlimitedUnit s file .end)
+ends s file l = Entry.unlimited-ends s file l
 
-pub stable : (s : Text) (file : Bool) → length s ≤ 65535 → (more : ℕ) → levels s ≤ more
-    → whole s file ≡ unlimited (grammar s) (unitP s (startOf file s)) more
-stable s file l more m = Entry.whole-stable s file l more m
+pub stable : (s : Text) (file : Bool) → length s ≤ 65535 → (more : ℕ) → enoughLevels s ≤ more
+    → unlimitedUnit s file ≡ unlimited (grammar s) (unitP s (startOf file s)) more
+stable s file l more m = Entry.unlimited-stable s file l more m
 
 -- ---- DEMAND 3: raising limits
 
@@ -117,10 +117,10 @@ module _ (s : Text) (cap nest comps : ℕ) (file : Bool) (l : length s ≤ 65535
   -- 5, 6 and 7 are given exactly where the unlimited reading crosses that limit, before it crosses another and before it stops otherwise,
   pub exactly : (w : Which)
       → (answerOf (full s cap nest comps file) .number ≡ numberOf (refusalOf w))
-      ↔ ((p : Place) × Crosses (limited nest cap comps) start (whole s file .events) w p)
+      ↔ ((p : Place) × Crosses (limited nest cap comps) start (unlimitedUnit s file .events) w p)
   exactly w = Entry.full-exactly s cap nest comps file l u a b w
 
   -- and at that place.
   pub crossed : (w : Which) (p : Place)
-      → (full s cap nest comps file .end ≡ Crossed w p) ↔ Crosses (limited nest cap comps) start (whole s file .events) w p
+      → (full s cap nest comps file .end ≡ Crossed w p) ↔ Crosses (limited nest cap comps) start (unlimitedUnit s file .events) w p
   crossed w p = Entry.full-crossed s cap nest comps file l u a b w p

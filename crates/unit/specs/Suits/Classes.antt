@@ -24,7 +24,7 @@ use Rattle.unit.specs.HeadRefusing.{ClassProper, class-proper}
 use Rattle.grammar.specs.Expressions.{function, turns}
 use Rattle.grammar.specs.Functions.{nameWord}
 use Rattle.grammar.specs.Classes.{isInit, methodEndP, methodP, methodsP, classEndP, classAs, classP}
-use Rattle.unit.specs.Suits.Falling.{choice, Works, MayWork, Room, called, still, beyond, advanced-then, turned, enough, fits-close}
+use Rattle.unit.specs.Suits.Falling.{chosen, Works, MayWork, Room, called, still, beyond, advanced-then, turned, enough, fits-close}
 use Rattle.unit.specs.Suits.Functions.{fits-name, fits-name-of, fits-new-name}
 
 module _ (s : Text) (M : ℕ) where
@@ -71,7 +71,7 @@ module _ (s : Text) (M : ℕ) where
   class-works before from names p st i Q h =
       fits-name-of s p st (λ a q g. fits-new-name s q from _ names _ (go a q g (classOf s q) (class-on s q (g .stands)) (class-proper s q)))
     where
-      go : (a q : Place) → Advanced s p q → (x : ClassHead) → ClassOn s q x → ClassProper x → Fits (choice s) M before Q (classAs s from (nameWord a q) x)
+      go : (a q : Place) → Advanced s p q → (x : ClassHead) → ClassOn s q x → ClassProper x → Fits (chosen s) M before Q (classAs s from (nameWord a q) x)
       go a q g (Opened parent n) y k =
           let z : Advanced s p n = advanced-on (advanced-reached g) y in
           fits-bind (methods-work (turns s) before [] 0 n (z .stands) (enough s n) (none refl) (beyond z i) _ (λ now r l since x items.

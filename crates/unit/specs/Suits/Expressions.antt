@@ -35,19 +35,19 @@ use Rattle.grammar.specs.LinkLaws.{LinkOn, link-on}
 use Rattle.grammar.specs.AtomLaws.{AtomOn, atom-on}
 use Rattle.unit.specs.Refusing.{MustProper, PrefixProper, prefix-proper, AtomProper, atom-proper, PostfixProper, postfix-proper, key-proper}
 use Rattle.grammar.specs.Expressions.{expression, operand, lambda, Rule, turns, elementP, listP, newKey, valueP, pairP, dictP, parenP, arrayP, closureP, atomAs, atomP, callP, indexP, extendP, postfixAs, postfixesP, postfixP, minusP, plusP, signP, prefixAs, prefixP, Pending, reduceP, choiceP, linkAs, chainP, expressionP}
-use Rattle.unit.specs.Suits.Falling.{choice, Works, MayWork, Room, called, below, still, advanced-then, turned, enough, fits-close, fits-follow, fits-token, fits-expected}
+use Rattle.unit.specs.Suits.Falling.{chosen, Works, MayWork, Room, called, below, still, advanced-then, turned, enough, fits-close, fits-follow, fits-token, fits-expected}
 
 -- ---- keys
 
 module _ (s : Text) {M : ℕ} {before : List Rec} {Q : Claim} where
   -- A key is gone over.
-  pub fits-key : (p : Place) → Stands s p → {f : Place → Place → Rule} → ((a n : Place) → Advanced s p n → Fits (choice s) M before Q (f a n))
-      → Fits (choice s) M before Q (must (keyAt s p) f)
+  pub fits-key : (p : Place) → Stands s p → {f : Place → Place → Rule} → ((a n : Place) → Advanced s p n → Fits (chosen s) M before Q (f a n))
+      → Fits (chosen s) M before Q (must (keyAt s p) f)
   fits-key p st x = fits-must (λ a n e. x a n (subst (KeyOn s p) e (key-on s p st) .1)) (λ k a e. subst MustProper e (key-proper s p))
 
   -- A new key is refused by 30, or the rule goes on.
-  pub fits-new : (q : Place) (key : Span) (keys : List Span) (next : Rule) → Fits (choice s) M before Q next
-      → Fits (choice s) M before Q (newKey s q key keys next)
+  pub fits-new : (q : Place) (key : Span) (keys : List Span) (next : Rule) → Fits (chosen s) M before Q next
+      → Fits (chosen s) M before Q (newKey s q key keys next)
   unfolding newKey
   fits-new q key [] next h = h
   fits-new q key (k ∷ ks) next h = fits-bind (fits-compare (fits-test (λ e. fits-stop tt) (λ e. fits-new q key ks next h)))
@@ -134,7 +134,7 @@ module _ (s : Text) (M : ℕ) where
   unfolding atomP closureP
   atom-works before p st i Q h = go (atomOf s p) (atom-on s p st) (atom-proper s p)
     where
-      go : (x : Atom) → AtomOn s p x → AtomProper x → Fits (choice s) M before Q (atomAs s p x)
+      go : (x : Atom) → AtomOn s p x → AtomProper x → Fits (chosen s) M before Q (atomAs s p x)
       go (atom.Leaf kind v n) g k = fits-make (g .0 .meant before p v) (λ now w. h now n _ (since-with w) (g .1) (is-new w (g .0 .expression)))
       go (atom.Paren n) g k =
           paren-works before n (g .stands) (below g i) Q (λ now q e since x number. h now q e since (advanced-on (advanced-reached g) x) number)
@@ -191,8 +191,8 @@ module _ (s : Text) (M : ℕ) where
       (λ now′ q′ e′ since′ x′ number′. h now′ q′ e′ (since-trans since since′) (reached-on (advanced-reached x) x′) number′))
     where
       go : (x : Postfix) → PostfixOn s p x → PostfixProper x
-          → ((now : List Rec) (q : Place) (e : Node) → Since before now → Advanced s p q → Is now table.expression (e .number) → Fits (choice s) M now Q (postfixesP f s e q))
-          → Fits (choice s) M before Q (postfixAs s base x (postfixesP f s))
+          → ((now : List Rec) (q : Place) (e : Node) → Since before now → Advanced s p q → Is now table.expression (e .number) → Fits (chosen s) M now Q (postfixesP f s e q))
+          → Fits (chosen s) M before Q (postfixAs s base x (postfixesP f s))
       go (post.More x) g c again = fits-bind (extend-works before base p x g l i _ again)
       go (post.Rest a) g c again = fits-done (h before a base (since-same before) g l)
       go (post.Wrong r q) g c again = fits-stop c
@@ -234,7 +234,7 @@ module _ (s : Text) (M : ℕ) where
   unfolding prefixP
   prefix-works before p st i Q h = go (prefixOf s p) (prefix-on s p st) (prefix-proper s p)
     where
-      go : (x : Prefix) → PrefixOn s p x → PrefixProper x → Fits (choice s) M before Q (prefixAs s x)
+      go : (x : Prefix) → PrefixOn s p x → PrefixProper x → Fits (chosen s) M before Q (prefixAs s x)
       go (prefix.Sign sign a n) g k =
           let y : Advanced s p n = advanced-on (g .0) (g .1) in
           fits-bind (fits-call (y .stands) (called operand (below y i)) (λ now q e since b. sign-works now sign a e q (b .1) Q
@@ -259,8 +259,8 @@ module _ (s : Text) (M : ℕ) where
   -- Binaries are made of records that were made, and the rule goes on.
   reduce-fits : (new : ℕ) (p : Place) (xs : Pending) (right : Node) (next : Pending → Node → Rule) (before : List Rec) (Q : Claim)
       → Held before xs → Is before table.expression (right .number)
-      → ((now : List Rec) (ys : Pending) (e : Node) → Since before now → Held now ys → Is now table.expression (e .number) → Fits (choice s) M now Q (next ys e))
-      → Fits (choice s) M before Q (reduceP new p xs right next)
+      → ((now : List Rec) (ys : Pending) (e : Node) → Since before now → Held now ys → Is now table.expression (e .number) → Fits (chosen s) M now Q (next ys e))
+      → Fits (chosen s) M before Q (reduceP new p xs right next)
   unfolding reduceP
   reduce-fits new p [] right next before Q hs l k = k before [] right (since-same before) tt l
   reduce-fits new p (x ∷ xs) right next before Q hs l k =
@@ -270,7 +270,7 @@ module _ (s : Text) (M : ℕ) where
       (λ now′ ys e since hs′ l′. k now′ ys e (since-trans (since-with w) since) hs′ l′))))
       (λ t. k before (x ∷ xs) right (since-same before) hs l)
 
-  -- A choice refers to its test and to both arms, each past a sign.
+  -- A chosen refers to its test and to both arms, each past a sign.
   choice-works : (before : List Rec) (e : Node) (p : Place) → Stands s p → Is before table.expression (e .number) → Room 2 s p M
       → Works s M before (Advanced s p) table.expression (choiceP s e p)
   unfolding choiceP
@@ -294,12 +294,12 @@ module _ (s : Text) (M : ℕ) where
       (λ now′ q′ e′ since′ x′ number′. h now′ q′ e′ (since-trans since since′) (reached-on (advanced-reached x) x′) number′))
     where
       -- The chain ends here.
-      over : Fits (choice s) M before Q (linkAs s allowed xs right p link.End (λ ys r q. chainP f s allowed ys r q))
+      over : Fits (chosen s) M before Q (linkAs s allowed xs right p link.End (λ ys r q. chainP f s allowed ys r q))
       over = reduce-fits _ p xs right _ before Q hs l (λ now ys e since hs′ number. fits-done (h now p e since (reached-here st) number))
 
       go : (x : Link) → LinkOn s p x
-          → ((now : List Rec) (ys : Pending) (e : Node) (q : Place) → Since before now → Advanced s p q → Held now ys → Is now table.expression (e .number) → Fits (choice s) M now Q (chainP f s allowed ys e q))
-          → Fits (choice s) M before Q (linkAs s allowed xs right p x (λ ys r q. chainP f s allowed ys r q))
+          → ((now : List Rec) (ys : Pending) (e : Node) (q : Place) → Since before now → Advanced s p q → Held now ys → Is now table.expression (e .number) → Fits (chosen s) M now Q (chainP f s allowed ys e q))
+          → Fits (chosen s) M before Q (linkAs s allowed xs right p x (λ ys r q. chainP f s allowed ys r q))
       go (link.Choice n) g again =
           reduce-fits _ n xs right _ before Q hs l (λ now ys e since hs′ number.
           choice-works now e n (g .stands) number (below g i) Q

@@ -38,14 +38,14 @@ weight lambda = 0
 weight (class from names) = 0
 
 -- What a routine answers with.
-abbrev pub answers : Routine → Meaning
-answers expression = table.expression
-answers before-assignment = table.expression
-answers operand = table.expression
-answers statement = table.statement
-answers (function from name) = table.function
-answers lambda = table.function
-answers (class from names) = table.class
+abbrev pub gives : Routine → Meaning
+gives expression = table.expression
+gives before-assignment = table.expression
+gives operand = table.expression
+gives statement = table.statement
+gives (function from name) = table.function
+gives lambda = table.function
+gives (class from names) = table.class
 
 -- A routine begins in the text; a lambda at a byte, its `|`.
 abbrev pub Begins : Text → Routine → Place → Type 0
@@ -59,12 +59,12 @@ Begins s (class from names) p = Stands s p
 
 -- The rest of the text falls, three for each byte, and then the weight; an answer stands further on, with a record of its own kind; each
 -- record's fields are what the table says.
-abbrev pub choice : Text → Choice Routine
-choice s =
+abbrev pub chosen : Text → Choice Routine
+chosen s =
     record {
       measure = λ nt p. weight nt + 3 * (length s - p .offset);
       asks = λ nt p before. Begins s nt p;
-      claim = λ nt p before now q n. Advanced s p q × Is now (answers nt) (n .number);
+      claim = λ nt p before now q n. Advanced s p q × Is now (gives nt) (n .number);
       fine = Meant;
     }
 
@@ -72,13 +72,13 @@ choice s =
 abbrev pub Works : Text → ℕ → List Rec → (Place → Type 0) → Meaning → Rule → Type 1
 Works s M before R m P =
     (Q : Claim) → ((now : List Rec) (q : Place) (n : Node) → Since before now → R q → Is now m (n .number) → Q now q n)
-    → Fits (choice s) M before Q P
+    → Fits (chosen s) M before Q P
 
 -- The same of a rule whose answer may be none.
 abbrev pub MayWork : Text → ℕ → List Rec → (Place → Type 0) → Meaning → Rule → Type 1
 MayWork s M before R m P =
     (Q : Claim) → ((now : List Rec) (q : Place) (n : Node) → Since before now → R q → MayBe now m (n .number) → Q now q n)
-    → Fits (choice s) M before Q P
+    → Fits (chosen s) M before Q P
 
 -- ---- how the measure falls
 
@@ -87,7 +87,7 @@ pub record Room (k : ℕ) (s : Text) (p : Place) (M : ℕ) : Type 0 where
   pub left : k + 3 * (length s - p .offset) < M
 
 -- So any routine may be called where one of weight 2 may.
-pub called : {s : Text} {p : Place} {M : ℕ} (nt : Routine) → Room 2 s p M → choice s .measure nt p < M
+pub called : {s : Text} {p : Place} {M : ℕ} (nt : Routine) → Room 2 s p M → chosen s .measure nt p < M
 called {s} {p} {M} nt h = let l : 2 + 3 * (length s - p .offset) < M = h .left in let w = light nt in omega arith
   where
     light : (nt : Routine) → weight nt ≤ 2
@@ -143,24 +143,24 @@ enough s p = omega arith
 module _ (s : Text) {M : ℕ} {before : List Rec} {Q : Claim} where
   -- The close of a list is gone over, or an element stands there.
   pub fits-close : (p : Place) (end : ℕ) → Stands s p → {f : Place → Place → Rule} {g : Place → Rule}
-      → ((a n : Place) → Advanced s p n → Fits (choice s) M before Q (f a n))
-      → ((a : Place) → Reached s p a → Fits (choice s) M before Q (g a)) → Fits (choice s) M before Q (look (closeOf s p end) f g)
+      → ((a n : Place) → Advanced s p n → Fits (chosen s) M before Q (f a n))
+      → ((a : Place) → Reached s p a → Fits (chosen s) M before Q (g a)) → Fits (chosen s) M before Q (look (closeOf s p end) f g)
   fits-close p end st x y =
       fits-look (λ a n e. x a n (subst (CloseOn s p) e (close-on s p end st))) (λ a e. y a (subst (CloseOn s p) e (close-on s p end st) .0))
       (λ k a e. subst LookProper e (close-proper s p end))
 
   -- What follows an element is gone over: the close, or a comma.
   pub fits-follow : (p : Place) (end : ℕ) → Stands s p → {f : Place → Place → Rule} {g : Place → Rule}
-      → ((a n : Place) → Advanced s p n → Fits (choice s) M before Q (f a n))
-      → ((n : Place) → Advanced s p n → Fits (choice s) M before Q (g n)) → Fits (choice s) M before Q (look (followOf s p end) f g)
+      → ((a n : Place) → Advanced s p n → Fits (chosen s) M before Q (f a n))
+      → ((n : Place) → Advanced s p n → Fits (chosen s) M before Q (g n)) → Fits (chosen s) M before Q (look (followOf s p end) f g)
   fits-follow p end st x y =
       fits-look (λ a n e. x a n (subst (FollowOn s p) e (follow-leads s p end st))) (λ a e. y a (subst (FollowOn s p) e (follow-leads s p end st)))
       (λ k a e. subst LookProper e (follow-proper s p end))
 
   -- A token is gone over, or the blanks before it.
   pub fits-token : (p : Place) (w : Text) → Stands s p → {f : Place → Place → Rule} {g : Place → Rule}
-      → ((a n : Place) → Reached s p n → Fits (choice s) M before Q (f a n))
-      → ((a : Place) → Reached s p a → Fits (choice s) M before Q (g a)) → Fits (choice s) M before Q (look (token s p w) f g)
+      → ((a n : Place) → Reached s p n → Fits (chosen s) M before Q (f a n))
+      → ((a : Place) → Reached s p a → Fits (chosen s) M before Q (g a)) → Fits (chosen s) M before Q (look (token s p w) f g)
   fits-token p w st x y =
       fits-look (λ a n e. let g = subst (TokenOn s p w) e (token-on s p w st) in x a n (reached-on (g .0) (g .1)))
       (λ a e. y a (subst (TokenOn s p w) e (token-on s p w st)))
@@ -168,6 +168,6 @@ module _ (s : Text) {M : ℕ} {before : List Rec} {Q : Claim} where
 
   -- An expected token is gone over.
   pub fits-expected : (p : Place) (w : Text) → Stands s p → {f : Place → Place → Rule}
-      → ((a n : Place) → Reached s p n → Fits (choice s) M before Q (f a n)) → Fits (choice s) M before Q (must (expected s p w) f)
+      → ((a n : Place) → Reached s p n → Fits (chosen s) M before Q (f a n)) → Fits (chosen s) M before Q (must (expected s p w) f)
   fits-expected p w st x =
       fits-must (λ a n e. x a n (subst (ExpectedOn s p) e (expected-leads s p w st))) (λ k a e. subst MustProper e (expected-proper s p w))

@@ -33,7 +33,7 @@ use Rattle.unit.specs.Refusing.{MustProper, LookProper, name-proper}
 use Rattle.unit.specs.HeadRefusing.{free-proper, name-of-proper, keyword-proper, end-proper}
 use Rattle.grammar.specs.Expressions.{Rule, expression, statement, turns}
 use Rattle.grammar.specs.Functions.{newName, paramP, paramsP, parametersP, blockItemP, statementsP, blockP, funP, bodyBlockP, functionP, impliedReturnP, lambdaBodyP, lambdaP}
-use Rattle.unit.specs.Suits.Falling.{choice, Works, MayWork, Room, called, still, beyond, advanced-then, turned, enough, fits-close, fits-follow, fits-token, fits-expected}
+use Rattle.unit.specs.Suits.Falling.{chosen, Works, MayWork, Room, called, still, beyond, advanced-then, turned, enough, fits-close, fits-follow, fits-token, fits-expected}
 
 -- ---- by what the leaves find
 
@@ -52,25 +52,25 @@ free-on s p st = go (name s p) (name-on s p st)
 
 module _ (s : Text) {M : ℕ} {before : List Rec} {Q : Claim} where
   -- A name is gone over;
-  pub fits-name : (p : Place) → Stands s p → {f : Place → Place → Rule} → ((a n : Place) → Advanced s p n → Fits (choice s) M before Q (f a n))
-      → Fits (choice s) M before Q (must (name s p) f)
+  pub fits-name : (p : Place) → Stands s p → {f : Place → Place → Rule} → ((a n : Place) → Advanced s p n → Fits (chosen s) M before Q (f a n))
+      → Fits (chosen s) M before Q (must (name s p) f)
   fits-name p st x = fits-must (λ a n e. x a n (subst (NamedOn s p) e (name-on s p st) .1)) (λ k a e. subst MustProper e (name-proper s p))
 
   -- so is one where reserved words are barred,
-  pub fits-free : (p : Place) → Stands s p → {f : Place → Place → Rule} → ((a n : Place) → Advanced s p n → Fits (choice s) M before Q (f a n))
-      → Fits (choice s) M before Q (must (freeName s p) f)
+  pub fits-free : (p : Place) → Stands s p → {f : Place → Place → Rule} → ((a n : Place) → Advanced s p n → Fits (chosen s) M before Q (f a n))
+      → Fits (chosen s) M before Q (must (freeName s p) f)
   fits-free p st x = fits-must (λ a n e. x a n (subst (FreeOn s p) e (free-on s p st))) (λ k a e. subst MustProper e (free-proper s p))
 
   -- and one past the blanks.
-  pub fits-name-of : (p : Place) → Stands s p → {f : Place → Place → Rule} → ((a n : Place) → Advanced s p n → Fits (choice s) M before Q (f a n))
-      → Fits (choice s) M before Q (must (nameOf s p) f)
+  pub fits-name-of : (p : Place) → Stands s p → {f : Place → Place → Rule} → ((a n : Place) → Advanced s p n → Fits (chosen s) M before Q (f a n))
+      → Fits (chosen s) M before Q (must (nameOf s p) f)
   fits-name-of p st x =
       fits-must (λ a n e. let g = subst (NameOn s p) e (name-of-on s p st) in x a n (advanced-on (g .0) (g .1))) (λ k a e. subst MustProper e (name-of-proper s p))
 
   -- A keyword is gone over, or the blanks before it.
   pub fits-keyword : (p : Place) (w : Text) → Stands s p → {f : Place → Place → Rule} {g : Place → Rule}
-      → ((a n : Place) → Reached s p n → Fits (choice s) M before Q (f a n))
-      → ((a : Place) → Reached s p a → Fits (choice s) M before Q (g a)) → Fits (choice s) M before Q (look (keyword s p w) f g)
+      → ((a n : Place) → Reached s p n → Fits (chosen s) M before Q (f a n))
+      → ((a : Place) → Reached s p a → Fits (chosen s) M before Q (g a)) → Fits (chosen s) M before Q (look (keyword s p w) f g)
   fits-keyword p w st x y =
       fits-look (λ a n e. let g = subst (TokenOn s p w) e (keyword-on s p w st) in x a n (reached-on (g .0) (g .1)))
       (λ a e. y a (subst (TokenOn s p w) e (keyword-on s p w st)))
@@ -78,15 +78,15 @@ module _ (s : Text) {M : ℕ} {before : List Rec} {Q : Claim} where
 
   -- The end of a block is gone over, or a statement stands there.
   fits-end : (p : Place) → Stands s p → {f : Place → Place → Rule} {g : Place → Rule}
-      → ((a n : Place) → Advanced s p n → Fits (choice s) M before Q (f a n))
-      → ((a : Place) → Reached s p a → Fits (choice s) M before Q (g a)) → Fits (choice s) M before Q (look (endOf s p) f g)
+      → ((a n : Place) → Advanced s p n → Fits (chosen s) M before Q (f a n))
+      → ((a : Place) → Reached s p a → Fits (chosen s) M before Q (g a)) → Fits (chosen s) M before Q (look (endOf s p) f g)
   fits-end p st x y =
       fits-look (λ a n e. let g = subst (EndOn s p) e (end-on s p st) in x a n (advanced-on (g .0) (g .1))) (λ a e. y a (subst (EndOn s p) e (end-on s p st)))
       (λ k a e. subst LookProper e (end-proper s p))
 
   -- A new name is refused by 30, or the rule goes on.
-  pub fits-new-name : (q at : Place) (new : Span) (names : List Span) (next : Rule) → Fits (choice s) M before Q next
-      → Fits (choice s) M before Q (newName s q at new names next)
+  pub fits-new-name : (q at : Place) (new : Span) (names : List Span) (next : Rule) → Fits (chosen s) M before Q next
+      → Fits (chosen s) M before Q (newName s q at new names next)
   unfolding newName
   fits-new-name q at new [] next h = h
   fits-new-name q at new (k ∷ ks) next h = fits-bind (fits-compare (fits-test (λ e. fits-stop tt) (λ e. fits-new-name q at new ks next h)))

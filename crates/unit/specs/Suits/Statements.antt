@@ -38,7 +38,7 @@ use Rattle.unit.specs.HeadRefusing.{HeadProper, head-proper, StepProper,
 use Rattle.grammar.specs.Expressions.{Rule, expression, statement, function}
 use Rattle.grammar.specs.Functions.{nameWord}
 use Rattle.grammar.specs.Statements.{absent, returnP, jumpP, conditionP, controlBodyP, elseP, ifP, forEndP, loopP, whileP, targetP, combineP, storeP, incrementP, doP, assignAs, exprOrAssignAs, exprOrAssignP, firstPartP, testPartP, thirdPartP, forRestP, forP, assertP, declareP, letAs, letP, funStatementP, statementAs, statementP}
-use Rattle.unit.specs.Suits.Falling.{choice, Works, MayWork, Room, called, lighter, below, still, advanced-then, fits-token, fits-expected}
+use Rattle.unit.specs.Suits.Falling.{chosen, Works, MayWork, Room, called, lighter, below, still, advanced-then, fits-token, fits-expected}
 use Rattle.unit.specs.Suits.Expressions.{paren-works, postfix-works}
 use Rattle.unit.specs.Suits.Functions.{fits-name-of, fits-keyword, block-works}
 
@@ -140,7 +140,7 @@ module _ (s : Text) (M : ℕ) where
   -- ---- assignments and calls
 
   -- What is no target is refused by 26.
-  fits-target : {before : List Rec} {Q : Claim} (e : Node) {next : Rule} → Fits (choice s) M before Q next → Fits (choice s) M before Q (targetP e next)
+  fits-target : {before : List Rec} {Q : Claim} (e : Node) {next : Rule} → Fits (chosen s) M before Q next → Fits (chosen s) M before Q (targetP e next)
   unfolding targetP
   fits-target e h = fits-test (λ t. h) (λ t. fits-stop tt)
 
@@ -176,7 +176,7 @@ module _ (s : Text) (M : ℕ) where
       → Room 2 s p M → Works s M before (Reached s p) table.statement (assignAs s end from e p (assignOf s p))
   assign-works before end from e p st l i Q h = go (assignOf s p) (assign-on s p st)
     where
-      go : (x : Assignment) → AssignOn s p x → Fits (choice s) M before Q (assignAs s end from e p x)
+      go : (x : Assignment) → AssignOn s p x → Fits (chosen s) M before Q (assignAs s end from e p x)
       go (Sign op n) g =
           let y : Reached s p n = advanced-reached (g .0) in
           fits-target e (fits-bind (fits-call (y .stands) (called expression (still y i)) (λ now q v since b.
@@ -194,7 +194,7 @@ module _ (s : Text) (M : ℕ) where
   unfolding exprOrAssignP
   expr-or-assign-works before end p st i Q h = go (stepOf s p) (step-on s p st) (step-proper s p)
     where
-      go : (x : StepHead) → StepOn s p x → StepProper x → Fits (choice s) M before Q (exprOrAssignAs s end p x)
+      go : (x : StepHead) → StepOn s p x → StepProper x → Fits (chosen s) M before Q (exprOrAssignAs s end p x)
       go (steps.Step op n) g k =
           fits-bind (postfix-works s M before n (g .0 .stands) (lighter (omega arith) (below (g .0) i)) _ (λ now q e since x number.
           increment-works now end p op e q (x .stands) number Q
@@ -271,7 +271,7 @@ module _ (s : Text) (M : ℕ) where
   unfolding letP
   let-works before from p st i Q h = go (letOf s p) (let-on s p st) (let-proper s p)
     where
-      go : (x : LetHead) → LetOn s p x → LetProper x → Fits (choice s) M before Q (letAs s from x)
+      go : (x : LetHead) → LetOn s p x → LetProper x → Fits (chosen s) M before Q (letAs s from x)
       go (lets.Named mark name n) g k =
           let y : Reached s p n = advanced-reached (g .0) in
           fits-bind (fits-call (y .stands) (called expression (still y i)) (λ now q e since b.
@@ -302,12 +302,12 @@ module _ (s : Text) (M : ℕ) where
     where
       -- what is read after a keyword
       after : {a n : Place} {P : Rule} → (Room 2 s n M → Works s M before (Reached s n) table.statement P) → Reached s p a × Advanced s a n
-          → Fits (choice s) M before Q P
+          → Fits (chosen s) M before Q P
       after {a} {n} works g =
           let y : Advanced s p n = advanced-on (g .0) (g .1) in
           works (below y i) Q (λ now q e since x number. h now q e since (advanced-then y x) number)
 
-      go : (x : StatementHead) → HeadOn s p x → HeadProper x → Fits (choice s) M before Q (statementAs s x)
+      go : (x : StatementHead) → HeadOn s p x → HeadProper x → Fits (chosen s) M before Q (statementAs s x)
       go (head.Return a n) g k = after (return-works before a n (g .1 .stands)) g
       go (head.Break a n) g k = after (λ r. jump-works before kinds.Break a n (g .1 .stands) tt tt) g
       go (head.Continue a n) g k = after (λ r. jump-works before kinds.Continue a n (g .1 .stands) tt tt) g

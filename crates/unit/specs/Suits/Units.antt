@@ -30,7 +30,7 @@ use Rattle.unit.specs.HeadRefusing.{ItemProper, item-proper}
 use Rattle.grammar.specs.Expressions.{Routine, expression, before-assignment, operand, statement, function, lambda, class, turns, statedRow}
 use Rattle.grammar.specs.Grammar.{grammar}
 use Rattle.grammar.specs.Units.{Declared, nothing, declaredName, unitItemP, classItemP, unitEndP, itemAs, itemsP, unitP, startOf}
-use Rattle.unit.specs.Suits.Falling.{Begins, choice, Works, Room, called, still, advanced-then, turned, enough}
+use Rattle.unit.specs.Suits.Falling.{Begins, chosen, Works, Room, called, still, advanced-then, turned, enough}
 use Rattle.unit.specs.Suits.Expressions.{prefix-works, expression-works}
 use Rattle.unit.specs.Suits.Functions.{fits-keyword, fits-new-name, function-works, lambda-works}
 use Rattle.unit.specs.Suits.Statements.{statement-works}
@@ -47,7 +47,7 @@ module _ (s : Text) (M : ℕ) where
       fits-test (λ t. fits-new-name s q (x .position) (declaredName x) (d .funs) _ stated)
       (λ t. fits-test (λ t. fits-make (some l, (m, tt)) (λ now w. h now q _ (since-with w) refl (is-new w tt))) (λ t. stated))
     where
-      stated : Fits (choice s) M before Q (make q (recordOf (statedRow x last)) 0)
+      stated : Fits (chosen s) M before Q (make q (recordOf (statedRow x last)) 0)
       stated = fits-make (some l, (m, tt)) (λ now w. h now q _ (since-with w) refl (is-new w tt))
 
   -- A class's declaration refers to it, and the item to the declaration.
@@ -80,8 +80,8 @@ module _ (s : Text) (M : ℕ) where
       (λ now′ q′ e′ since′ x′ number′. h now′ q′ e′ (since-trans since since′) (reached-on (advanced-reached x) x′) number′))
     where
       go : (x : ItemHead) → ItemOn s p x → ItemProper x
-          → ((now : List Rec) (e : Declared) (j : ℕ) (q : Place) → Since before now → Advanced s p q → Is now table.items j → Fits (choice s) M now Q (itemsP f s from e j q))
-          → Fits (choice s) M before Q (itemAs s from d last x (λ e j q. itemsP f s from e j q))
+          → ((now : List Rec) (e : Declared) (j : ℕ) (q : Place) → Since before now → Advanced s p q → Is now table.items j → Fits (chosen s) M now Q (itemsP f s from e j q))
+          → Fits (chosen s) M before Q (itemAs s from d last x (λ e j q. itemsP f s from e j q))
       go (End a) g c again =
           unit-end-works before from last a l Q (λ now q e since z number. h now q e since (subst (Reached s p) (sym z) g) number)
       go (Class a n) g c again =
@@ -107,7 +107,7 @@ module _ (s : Text) (M : ℕ) where
 
 -- Each routine's rule meets its claim below its own measure.
 rules-fit : (s : Text) (nt : Routine) (p : Place) (before : List Rec) → Begins s nt p
-    → Fits (choice s) (choice s .measure nt p) before (choice s .claim nt p before) (grammar s nt p)
+    → Fits (chosen s) (chosen s .measure nt p) before (chosen s .claim nt p before) (grammar s nt p)
 unfolding grammar
 rules-fit s expression p before st = expression-works s _ before false p st (record { left = omega arith }) _ (λ now q n a b c. (b, c))
 rules-fit s before-assignment p before st = expression-works s _ before true p st (record { left = omega arith }) _ (λ now q n a b c. (b, c))
@@ -118,8 +118,8 @@ rules-fit s lambda p before st = lambda-works s _ before p st (omega arith) _ (�
 rules-fit s (class from names) p before st = class-works s _ before from names p st (omega arith) _ (λ now q n a b c. (b, c))
 
 -- Levels enough for every text: three for each byte, and three.
-abbrev pub levels : Text → ℕ
-levels s = 3 + 3 * length s
+abbrev pub enoughLevels : Text → ℕ
+enoughLevels s = 3 + 3 * length s
 
 -- The first place stands in a text that can be held, and so does the one past a line that opens with `#!`.
 first-stands : (s : Text) → length s ≤ 65535 → Stands s first
@@ -132,10 +132,10 @@ start-stands s true l =
 start-stands s false l = first-stands s l
 
 -- THE GRAMMAR SUITS: a unit from its start on, in string form and in file form, in a text of at most 65,535 bytes.
-pub suits : (s : Text) (file : Bool) → length s ≤ 65535 → Suits (grammar s) (choice s) (unitP s (startOf file s)) (levels s)
+pub suits : (s : Text) (file : Bool) → length s ≤ 65535 → Suits (grammar s) (chosen s) (unitP s (startOf file s)) (enoughLevels s)
 suits s file l =
     record {
       rules = λ nt p before a. rules-fit s nt p before a .meets;
-      whole = unit-works s (levels s) (startOf file s) (start-stands s file l) (record { left = omega arith }) _ (λ now q n a b c. tt) .meets;
+      whole = unit-works s (enoughLevels s) (startOf file s) (start-stands s file l) (record { left = omega arith }) _ (λ now q n a b c. tt) .meets;
       earlier = meant-earlier;
     }

@@ -13,8 +13,10 @@ use Rattle.characters.specs.declared.tokens.Must.{Must}
 use Rattle.characters.specs.declared.tokens.Must.the-variants.{Taken, Failed}
 use Rattle.characters.specs.Text.{Text, byteAt, ByteOf, onBy, lineOn, past, Stands, start}
 use Rattle.characters.specs.PlaceLaws.{Advanced, Reached, reached-here, reached-on, advanced-reached, past-line, past-low, past-offset, onBy-stands}
-use Rattle.characters.specs.Blanks.{isBlank, Mode, between, line, block, out, blanks, spaces, lineEnd, fileStart}
-use Rattle.characters.specs.BlankLaws.{passFrom, over-blank, spaces-on, spaces-end, over-spaces, opens-line, opens-block, deeper, closes, in-block, at-token, at-slash, unclosed, out-in, by-line, lineEnd-on, lineEnd-in, lineEnd-lf, lineEnd-end, Closes, spaced, spaced-stands}
+use Rattle.characters.specs.Counts.{endOf}
+use Rattle.characters.specs.CountLaws.{run-bytes}
+use Rattle.characters.specs.Blanks.{isBlank, Mode, between, line, block, out, blanks, spaces, isInLine, lineEnd, fileStart}
+use Rattle.characters.specs.BlankLaws.{passFrom, over-blank, spaces-on, spaces-end, over-spaces, opens-line, opens-block, deeper, closes, in-block, at-token, at-slash, unclosed, out-in, by-line, lineEnd-on, lineEnd-in, lineEnd-end, no-line, Closes, spaced, spaced-stands}
 use Rattle.characters.proofs.Places.{ended, not-ended, byte-in, stepped}
 
 -- ---- a line
@@ -23,19 +25,30 @@ use Rattle.characters.proofs.Places.{ended, not-ended, byte-in, stepped
 pub record InLine (s : Text) (p₀ p : Place) : Type 0 where
   pub same : lineEnd (drop (p .offset) s) p ≡ lineEnd (drop (p₀ .offset) s) p₀
   pub stands : Stands s p
+  pub further : p₀ .offset ≤ p .offset
 
-pub line-step : {s : Text} {p₀ p q : Place} {b : ℕ} → InLine s p₀ p → ByteOf s (p .offset) b → (b ≡ 10 → ⊥) → (b ≡ 256 → ⊥) → q ≡ past b p → InLine s p₀ q
-line-step {s} {p₀} {p} {q} {b} v e n m z =
-    record {
-      same = ap (λ (x : Place). lineEnd (drop (x .offset) s) x) z ∙ sym (lineEnd-in s p b (e .is) (not-ended e m) n) ∙ v .same;
-      stands = stepped (v .stands) e (not-ended e m) z .stands;
-    }
+module _ {s : Text} {p₀ p : Place} {b : ℕ} (v : InLine s p₀ p) (e : ByteOf s (p .offset) b) where
+  -- no byte of the last line is LF
+  in-last : length s ≤ endOf isInLine s (p₀ .offset) → (b ≡ 256 → ⊥) → b ≡ 10 → ⊥
+  in-last l m n =
+      let i = byte-in e (not-ended e m) in
+      let r = run-bytes isInLine s (p₀ .offset) (p .offset) (v .further) (omega arith) .1 in
+      let z : _≡_ {A = Bool} true false = sym r ∙ ap isInLine (sym (e .is)) ∙ no-line b n in
+      let w : _≡_ {A = ℕ} 0 1 = cc in
+      omega arith
 
-pub line-lf : {s : Text} {p₀ p q : Place} {b : ℕ} → InLine s p₀ p → ByteOf s (p .offset) b → b ≡ 10 → q ≡ lineOn p → q ≡ lineEnd (drop (p₀ .offset) s) p₀
-line-lf {s} {p₀} {p} {q} {b} v e n z = z ∙ sym (past-line b p n) ∙ sym (lineEnd-lf s p b (e .is) n) ∙ v .same
+  pub line-step : {q : Place} → length s ≤ endOf isInLine s (p₀ .offset) → (b ≡ 256 → ⊥) → q ≡ past b p → InLine s p₀ q
+  line-step l m z =
+      let a = stepped (v .stands) e (not-ended e m) z in
+      let f : p₀ .offset ≤ p .offset = v .further in
+      record {
+        same = ap (λ (x : Place). lineEnd (drop (x .offset) s) x) z ∙ sym (lineEnd-in s p b (e .is) (not-ended e m) (in-last l m)) ∙ v .same;
+        stands = a .stands;
+        further = omega arith;
+      }
 
-pub line-out : {s : Text} {p₀ p : Place} {b : ℕ} → InLine s p₀ p → ByteOf s (p .offset) b → b ≡ 256 → p ≡ lineEnd (drop (p₀ .offset) s) p₀
-line-out {s} {p₀} {p} {b} v e n = sym (lineEnd-end s p (ended e n)) ∙ v .same
+  pub line-out : b ≡ 256 → p ≡ lineEnd (drop (p₀ .offset) s) p₀
+  line-out n = sym (lineEnd-end s p (ended e n)) ∙ v .same
 
 -- ---- a comment
 

@@ -1,6 +1,6 @@
 -- Laws of blanks: how one byte of them leads to the next, and that they end further on in the text. Assumes nothing.
 use mathlib.Core.Path.{_≡_, refl, sym, ap, subst, subst⁻¹, _∙_}
-use mathlib.Core.Bool.{Bool, true, false, _&&_, _||_}
+use mathlib.Core.Bool.{Bool, true, false, _&&_, _||_, not}
 use mathlib.Core.List.{List, [], _∷_}
 use Prim.Native.Nat.{ℕ, zero, suc, _+_, _-_, _≤_, _<_}
 use native.Mathlib.Omega.{arith}
@@ -15,8 +15,10 @@ use Rattle.characters.specs.declared.refusal.Refusal.the-variants.{EndOf
 use Rattle.characters.specs.declared.tokens.Must.{Must}
 use Rattle.characters.specs.declared.tokens.Must.the-variants.{Taken, Failed}
 use Rattle.characters.specs.Text.{Text, byteAt, ByteOf, onBy, past, Stands, start}
-use Rattle.characters.specs.PlaceLaws.{Reached, Advanced, reached-here, reached-on, advanced-on, advanced-reached, in-text, at-end, from-byte, from-end, front, past-low, past-offset, past-stands, onBy-stands, onBy-none, onBy-onBy}
-use Rattle.characters.specs.Blanks.{isBlank, begins, Mode, between, line, block, passing, out, pass, blanks, spacesIn, spaces, opensBlank, lineEnd}
+use Rattle.characters.specs.PlaceLaws.{Reached, Advanced, reached-here, reached-on, advanced-on, advanced-reached, in-text, at-end, from-byte, from-end, front, past-line, past-low, past-offset, past-line-same, past-stands, onBy-stands, onBy-none, onBy-onBy}
+use Rattle.characters.specs.Counts.{countOf, endOf}
+use Rattle.characters.specs.CountLaws.{count-yes, count-no, count-none}
+use Rattle.characters.specs.Blanks.{isBlank, begins, Mode, between, line, block, passing, out, pass, blanks, spacesIn, spaces, opensBlank, isInLine, lineEnd}
 
 -- the blanks that began at `at`, from the place p on
 abbrev pub passFrom : Text → Place → Mode → Place → Must
@@ -346,7 +348,7 @@ module _ (s : Text) where
   pub by-line : (at p : Place) → passFrom s at line p ≡ passFrom s at between (lineEnd (drop (p .offset) s) p)
   by-line at p = pass-by-line at (drop (p .offset) s) p refl
 
-  -- one byte of a line, and its end
+  -- one byte of a line, and the end of the text
   pub lineEnd-in : (p : Place) (b : ℕ) → b ≡ byteAt s (p .offset) → b < 256 → (b ≡ 10 → ⊥) → lineEnd (drop (p .offset) s) p ≡ lineEnd (drop (past b p .offset) s) (past b p)
   lineEnd-in p b e h n =
       ap (λ (x : Text). lineEnd x p) (from-byte s (p .offset) b e h)
@@ -356,15 +358,40 @@ module _ (s : Text) where
       go : (l : Text) → eqb b 10 ≡ false → lineEnd (b ∷ l) p ≡ lineEnd l (past b p)
       go l z = unfold lineEnd in rw (z, lineEnd) refl
 
-  pub lineEnd-lf : (p : Place) (b : ℕ) → b ≡ byteAt s (p .offset) → b ≡ 10 → lineEnd (drop (p .offset) s) p ≡ past b p
-  lineEnd-lf p b e n = ap (λ (x : Text). lineEnd x p) (from-byte s (p .offset) b e (omega arith)) ∙ go (drop (p .offset + 1) s) (eq-eqb b 10 n)
-    where
-      go : (l : Text) → eqb b 10 ≡ true → lineEnd (b ∷ l) p ≡ past b p
-      go l z = unfold lineEnd in rw (z, lineEnd) refl
-
   pub lineEnd-end : (p : Place) → length s ≤ p .offset → lineEnd (drop (p .offset) s) p ≡ p
   unfolding lineEnd
   lineEnd-end p h = ap (λ (x : Text). lineEnd x p) (from-end s (p .offset) h)
+
+pub in-line : (b : ℕ) → (b ≡ 10 → ⊥) → isInLine b ≡ true
+in-line b n = ap not (ne-eqb b 10 n)
+
+pub no-line : (b : ℕ) → b ≡ 10 → isInLine b ≡ false
+no-line b e = ap not (eq-eqb b 10 e)
+
+-- a line that an LF ends: past it, whatever the columns before
+line-counted : (l : Text) (p : Place) → countOf isInLine l < length l → lineEnd l p ≡ record { offset = p .offset + countOf isInLine l + 1; line = p .line + 1; column = 1 }
+unfolding lineEnd
+line-counted [] p h = absurd (let z = count-none isInLine in omega arith)
+line-counted (b ∷ l) p h = go (eqb b 10) refl (line-counted l (past b p))
+  where
+    go : (t : Bool) → eqb b 10 ≡ t → (countOf isInLine l < length l → lineEnd l (past b p) ≡ record { offset = past b p .offset + countOf isInLine l + 1; line = past b p .line + 1; column = 1 })
+        → _≡_ {A = Place} (elim t as (λ u. Place) [ true ↦ past b p | false ↦ lineEnd l (past b p) ]) (record { offset = p .offset + countOf isInLine (b ∷ l) + 1; line = p .line + 1; column = 1 })
+    go true e ih =
+        let n : b ≡ 10 = eqb-true b 10 e in
+        let c = count-no isInLine b l (no-line b n) in
+        let o : p .offset + 1 ≡ p .offset + countOf isInLine (b ∷ l) + 1 = omega arith in
+        past-line b p n ∙ ap (λ (x : ℕ). record { offset = x; line = p .line + 1; column = 1 }) o
+    go false e ih =
+        let n : b ≡ 10 → ⊥ = eqb-false b 10 e in
+        let c = count-yes isInLine b l (in-line b n) in
+        let k = past-offset b p in
+        let o : past b p .offset + countOf isInLine l + 1 ≡ p .offset + countOf isInLine (b ∷ l) + 1 = omega arith in
+        ih (omega arith) ∙ (λ i. record { offset = o i; line = past-line-same b p n i + 1; column = 1 })
+
+pub line-by-stop : (s : Text) (p : Place) {e : ℕ} → e ≡ endOf isInLine s (p .offset) → e < length s → record { offset = e + 1; line = p .line + 1; column = 1 } ≡ lineEnd (drop (p .offset) s) p
+line-by-stop s p {e} z h =
+    let d = length-drop (p .offset) s in
+    ap (λ (x : ℕ). record { offset = x + 1; line = p .line + 1; column = 1 }) z ∙ sym (line-counted (drop (p .offset) s) p (omega arith))
 
 -- what reading a comment that opens at p answers: where the blanks go on, or how they fail
 abbrev pub ClosesBy : Text → Place → Must → Type 0

@@ -1,5 +1,5 @@
 -- Blanks: what stands between tokens and means nothing. Assumes nothing.
-use mathlib.Core.Bool.{Bool, true, false, _&&_, _||_}
+use mathlib.Core.Bool.{Bool, true, false, _&&_, _||_, not}
 use mathlib.Core.List.{List, [], _∷_}
 use Prim.Native.Nat.{ℕ, zero, suc}
 use lib.Dec.{eqb, ltb}
@@ -69,6 +69,10 @@ spaces s o = spacesIn (drop o s)
 -- may a blank begin with this byte? A comment begins with `/`, and every other blank is at most a space
 abbrev pub opensBlank : ℕ → Bool
 opensBlank b = ltb b 33 || eqb b 47
+
+-- every byte but LF goes on with its line
+abbrev pub isInLine : ℕ → Bool
+isInLine b = not (eqb b 10)
 
 -- past the LF that ends a line, or at the end of the text
 unfoldable pub lineEnd : Text → Place → Place

@@ -16,7 +16,7 @@ use Rattle.characters.specs.declared.tokens.Must.the-variants.{Taken, Fa
 use Rattle.characters.specs.Text.{Text, byteAt, onBy, past, Stands}
 use Rattle.characters.specs.PlaceLaws.{Reached, Advanced, reached-here, reached-on, advanced-on, advanced-reached, in-text, at-end, from-byte, from-end, front, past-low, past-offset, past-stands, onBy-none, onBy-onBy}
 use Rattle.characters.specs.Counts.{countOf, endOf}
-use Rattle.characters.specs.CountLaws.{In, count-yes, count-no, count-none, run-over}
+use Rattle.characters.specs.CountLaws.{count-yes, count-no, count-none}
 use Rattle.characters.specs.BlankLaws.{rest}
 use Rattle.characters.specs.Names.{isDigit, isSmall, isLetter, isNameByte, along, run, nameBy, name, part, same, reserved, numbered, wordOf}
 use Rattle.characters.specs.Tokens.{spells, isKeyword}
@@ -30,7 +30,7 @@ or-false false = refl
 pub letter-is-name : (b : ℕ) → isLetter b ≡ true → isNameByte b ≡ true
 letter-is-name b e = rw e refl
 
-small-is-name : (b : ℕ) → isSmall b ≡ true → isNameByte b ≡ true
+pub small-is-name : (b : ℕ) → isSmall b ≡ true → isNameByte b ≡ true
 small-is-name b e = rw e refl
 
 -- what is too low or too high for a name
@@ -64,10 +64,6 @@ along-no b l p e = rw (e, along) refl
 -- a byte of a name is one character and no LF
 pub past-name : (b : ℕ) (p : Place) → isNameByte b ≡ true → past b p ≡ onBy 1 p
 past-name b p e = let l = name-byte-low b e in past-low b p (λ z. omega arith) (omega arith)
-
--- over small letters, along the bytes of a name
-pub small-over : {s : Text} {from i e : ℕ} → In isNameByte s from i → e ≡ endOf isSmall s i → In isNameByte s from e
-small-over {s} v w = run-over isNameByte isSmall s small-is-name v w
 
 -- each byte of a name is a character
 along-count : (l : Text) (p : Place) → along l p ≡ onBy (countOf isNameByte l) p

@@ -96,6 +96,15 @@ past-offset b p = go (eqb b 10) (isTail b)
     go false true = refl
     go false false = refl
 
+pub past-line-same : (b : ℕ) (p : Place) → (b ≡ 10 → ⊥) → past b p .line ≡ p .line
+unfolding past
+past-line-same b p n = go (eqb b 10) (isTail b) (ne-eqb b 10 n)
+  where
+    go : (t u : Bool) → t ≡ false → pastBy t u p .line ≡ p .line
+    go true u e = let z : _≡_ {A = ℕ} 0 1 = cc in absurd (omega arith)
+    go false true e = refl
+    go false false e = refl
+
 -- a byte of the text is stepped over
 pub past-stands : (s : Text) (b : ℕ) (p : Place) → Stands s p → p .offset < length s → Advanced s p (past b p)
 unfolding past

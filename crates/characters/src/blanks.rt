@@ -4,10 +4,11 @@ use crate::place::byte;
 use crate::refusal::Refusal;
 use crate::tokens::Must;
 ghost use mathlib.Core.Path.{_≡_};
-ghost use Prim.Native.Nat.{_+_, _<_, _^_};
+ghost use Prim.Native.Nat.{_+_, _≤_, _<_, _^_};
 ghost use lib.ListN.{drop, length};
 ghost use Rattle.characters.specs.Text.{Stands, byteAt, start};
-ghost use Rattle.characters.specs.Blanks.{blanks, fileStart, lineEnd, opensBlank, spaces};
+ghost use Rattle.characters.specs.Counts.{endOf};
+ghost use Rattle.characters.specs.Blanks.{blanks, fileStart, isInLine, lineEnd, opensBlank, spaces};
 ghost use Rattle.characters.specs.BlankLaws.{Closes};
 
 // Past the blanks at `at`, or 19 where a comment does not end.
@@ -87,25 +88,69 @@ pub fn opens_blank(b: u32) -> bool
     b == 47
 }
 
-// Past the line's LF, or at the end of the text.
-pub fn line_end(text: &[u8], at: Place) -> Place
-    requires { ⌜ Stands (now text) at ⌝ }
+// Where the line from `from` on stops: at its LF, or at the end of the text. Four bytes a turn.
+fn line_stop(text: &[u8], from: usize) -> usize
+    requires { ⌜ (from ≤ length (now text)) × (length (now text) < 2 ^ 31) ⌝ }
+    ensures { λ r. ⌜ r ≡ endOf isInLine (now (text .entry)) from ⌝ }
+{
+    let n = text.len();
+    let mut i = from;
+    while i + 4 <= n {
+        if text[i] == 10 {
+            return i;
+        }
+        if text[i + 1] == 10 {
+            return i + 1;
+        }
+        if text[i + 2] == 10 {
+            return i + 2;
+        }
+        if text[i + 3] == 10 {
+            return i + 3;
+        }
+        i += 4;
+    }
+    while i < n {
+        if text[i] == 10 {
+            return i;
+        }
+        i += 1;
+    }
+    i
+}
+
+// Past the last line, which no LF ends, so that its columns count.
+fn last_line(text: &[u8], at: Place) -> Place
+    requires { ⌜ (Stands (now text) at) × (length (now text) ≤ endOf isInLine (now text) (at .offset)) ⌝ }
     ensures { λ r. ⌜ r ≡ lineEnd (drop (at .offset) (now (text .entry))) at ⌝ }
 {
     let mut p = at;
     loop {
         let b = byte(text, p.offset);
-        match b {
-            10 => {
-                return p.line_on();
-            }
-            256 => {
-                return p;
-            }
-            _ => {
-                p = p.past(b);
-            }
+        if b == 256 {
+            return p;
         }
+        p = p.past(b);
+    }
+}
+
+// Past the line's LF, or at the end of the text. Before an LF no column counts.
+pub fn line_end(text: &[u8], at: Place) -> Place
+    requires { ⌜ Stands (now text) at ⌝ }
+    ensures { λ r. ⌜ r ≡ lineEnd (drop (at .offset) (now (text .entry))) at ⌝ }
+{
+    let from = at.offset as usize;
+    let stop = line_stop(text, from);
+    if text.len() <= stop {
+        return last_line(text, at);
+    }
+    let end = stop as u32;
+    let offset = end + 1;
+    let line = at.line + 1;
+    Place {
+        offset,
+        line,
+        column: 1,
     }
 }
 

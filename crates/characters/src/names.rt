@@ -50,7 +50,7 @@ pub fn is_name_byte(b: u32) -> bool
 }
 
 // A small letter.
-fn is_small(b: u8) -> bool
+pub fn is_small(b: u8) -> bool
     ensures { λ r. ⌜ r ≡ isSmall b ⌝ }
 {
     if b < 97 {
@@ -59,55 +59,24 @@ fn is_small(b: u8) -> bool
     b <= 122
 }
 
-// Where the small letters from `from` on end: one test of a range for a byte, and four bytes a turn.
-pub fn small_end(text: &[u8], from: usize) -> usize
-    requires { ⌜ (from ≤ length (now text)) × (length (now text) < 2 ^ 31) ⌝ }
-    ensures { λ r. ⌜ r ≡ endOf isSmall (now (text .entry)) from ⌝ }
-{
-    let n = text.len();
-    let mut i = from;
-    while i + 4 <= n {
-        if !is_small(text[i]) {
-            return i;
-        }
-        if !is_small(text[i + 1]) {
-            return i + 1;
-        }
-        if !is_small(text[i + 2]) {
-            return i + 2;
-        }
-        if !is_small(text[i + 3]) {
-            return i + 3;
-        }
-        i += 4;
-    }
-    while i < n {
-        if !is_small(text[i]) {
-            return i;
-        }
-        i += 1;
-    }
-    i
-}
-
-// Where the bytes of a name from `from` on end: mostly small letters, and the others between them.
+// Where the bytes of a name from `from` on end. Small letters first, by one test of a range; and small enough to be put into `name`'s callers.
 pub fn name_end(text: &[u8], from: u32) -> u32
     requires { ⌜ (from ≤ length (now text)) × (length (now text) < 2 ^ 31) ⌝ }
     ensures { λ r. ⌜ r ≡ endOf isNameByte (now (text .entry)) from ⌝ }
 {
     let n = text.len();
     let mut i = from as usize;
-    loop {
-        i = small_end(text, i);
-        if n <= i {
-            return i as u32;
-        }
-        let b = text[i] as u32;
-        if !is_name_byte(b) {
-            return i as u32;
+    while i < n {
+        let b = text[i];
+        if !is_small(b) {
+            let c = b as u32;
+            if !is_name_byte(c) {
+                return i as u32;
+            }
         }
         i += 1;
     }
+    i as u32
 }
 
 // The name at `at`, with no blanks before it, or 11.

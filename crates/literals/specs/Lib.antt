@@ -15,3 +15,4 @@ pub mod ByteArrayStable
 pub mod ByteArrayExamples
 pub mod Plain
 pub mod PlainLaws
+pub mod PlainEx

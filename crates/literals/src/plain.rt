@@ -1,6 +1,6 @@
 // Plain literals: integers of decimal digits, strings without escapes. A leaf that finds none answers 0, and the readers of all literals decide.
 use characters::names::is_name_byte;
-use characters::names::small_end;
+use characters::names::is_small;
 use characters::place::byte;
 ghost use mathlib.Core.Path.{_≡_};
 ghost use mathlib.Core.Bool.{true};
@@ -8,7 +8,7 @@ ghost use Prim.Native.Nat.{_≤_, _<_, _^_};
 ghost use lib.ListN.{length};
 ghost use Rattle.characters.specs.Text.{byteAt};
 ghost use Rattle.characters.specs.Counts.{endOf};
-ghost use Rattle.characters.specs.Names.{isDigit};
+ghost use Rattle.characters.specs.Names.{isDigit, isSmall};
 ghost use Rattle.literals.specs.Strings.{isQuote};
 ghost use Rattle.literals.specs.Plain.{Few, IntOf, goesOn, intEnd, isItself, stringEnd};
 
@@ -82,6 +82,37 @@ pub fn plain_int(text: &[u8], from: u32, to: u32) -> u64
         i += 1;
     }
     value
+}
+
+// Where the small letters from `from` on end: one test of a range for a byte, and four bytes a turn.
+fn small_end(text: &[u8], from: usize) -> usize
+    requires { ⌜ (from ≤ length (now text)) × (length (now text) < 2 ^ 31) ⌝ }
+    ensures { λ r. ⌜ r ≡ endOf isSmall (now (text .entry)) from ⌝ }
+{
+    let n = text.len();
+    let mut i = from;
+    while i + 4 <= n {
+        if !is_small(text[i]) {
+            return i;
+        }
+        if !is_small(text[i + 1]) {
+            return i + 1;
+        }
+        if !is_small(text[i + 2]) {
+            return i + 2;
+        }
+        if !is_small(text[i + 3]) {
+            return i + 3;
+        }
+        i += 4;
+    }
+    while i < n {
+        if !is_small(text[i]) {
+            return i;
+        }
+        i += 1;
+    }
+    i
 }
 
 // A byte that means itself in a string, unless it is the quote.

@@ -9,7 +9,7 @@ use Rattle.literals.proofs.plain.plain_string_end.Statement.{statement}
 use Rattle.literals.proofs.plain.plain_string_end.Tie as tie
 use Rattle.literals.proofs.plain.plain_string_end.Reads as reads
 use Rattle.literals.proofs.plain.plain_string_end.Lts as lts
-use Rattle.characters.proofs.names.small_end.Reads as small-end-reads
+use Rattle.literals.proofs.plain.small_end.Reads as small-end-reads
 use Rattle.literals.proofs.plain.is_itself.Reads as is-itself-reads
 
 abbrev Inv-loop : tie.InvT-loop

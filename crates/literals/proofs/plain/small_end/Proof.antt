@@ -3,14 +3,14 @@ use mathlib.Core.Path.{refl}
 use Prim.Native.Nat.{_+_, _-_}
 use lib.ListN.{length}
 use native.Mathlib.Omega.{arith}
 use Rattle.characters.specs.Names.{isSmall}
 use Rattle.characters.specs.CountLaws.{In, run-starts, run-on, run-ends, run-out}
 use borrow.Author.Needs.{needs}
-use Rattle.characters.proofs.names.small_end.Statement.{statement}
-use Rattle.characters.proofs.names.small_end.Tie as tie
-use Rattle.characters.proofs.names.small_end.Reads as reads
-use Rattle.characters.proofs.names.small_end.Lts as lts
+use Rattle.literals.proofs.plain.small_end.Statement.{statement}
+use Rattle.literals.proofs.plain.small_end.Tie as tie
+use Rattle.literals.proofs.plain.small_end.Reads as reads
+use Rattle.literals.proofs.plain.small_end.Lts as lts
 use Rattle.characters.proofs.names.is_small.Reads as is-small-reads
 
 abbrev Inv-loop : tie.InvT-loop
 Inv-loop text from n i₀ i = In isSmall text from i

@@ -1,0 +1,1 @@
+// The listing: prints records and answers into a lent buffer.

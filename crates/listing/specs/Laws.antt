@@ -1,2 +1,6 @@
--- The laws of sheets, of decimals, of characters and of the tables that the printing functions read.
+-- The laws of sheets, of decimals, of what parts of the text print as, and of lists of words.
 pub mod Sheets
+pub mod Numbers
+pub mod Texts
+pub mod Words
+pub mod Fields

@@ -21,6 +21,8 @@ use Rattle.records.specs.declared.row.RowAt.the-variants.{Here, Nothing}
 use Rattle.records.specs.Kinds.{Meaning, expression, statement, function, class, element, items, span, low, high, mark, operator, id, number, unused, shape, numberOf, meaningAt}
 use Rattle.records.specs.Words.{spanOf, wholeOf}
 use Rattle.records.specs.Rows.{rowAt}
+use Rattle.listing.specs.declared.fields.Form.{Form}
+use Rattle.listing.specs.declared.fields.Form.the-variants.{Hidden, Plain, Named, Quoted, Array, Float, Int, Prefix, Sign}
 
 -- ---- numbers
 
@@ -88,9 +90,12 @@ abbrev pub hex : ℕ → ℕ
 hex d = elim (ltb d 10) [ true ↦ 48 + d | false ↦ 55 + d ]
 
 -- "two hex digits a byte, capitals, a space between; nothing if empty": a space before each, the first one's being the field's.
+abbrev pub pair : ℕ → Text
+pair v = 32 ∷ hex (v / 16 % 16) ∷ hex (v % 16) ∷ []
+
 unfoldable pub pairs : List ℕ → Text
 pairs [] = []
-pairs (v ∷ vs) = 32 ∷ hex (v / 16 % 16) ∷ hex (v % 16) ∷ pairs vs
+pairs (v ∷ vs) = pair v ++ pairs vs
 
 -- A bytearray stands with its `#[`, past which its bytes are read.
 unfoldable pub bytes : Text → Text
@@ -132,17 +137,6 @@ signs =
 
 -- ---- how a field prints
 
-pub data Form : Type 0 where
-  nothing : Form  -- not at all
-  plain : Form  -- a number: of a record, an id, a global number, a mark
-  named : Form  -- a name
-  string : Form  -- a string
-  array : Form  -- the bytes of a bytearray
-  float : Form  -- a float, with the mark in the next field
-  int : Form  -- an int64, with its high half in the next field
-  prefix : Form  -- the sign of a unary
-  sign : Form  -- the sign of a binary
-
 -- Whether two kinds are the same.
 abbrev is : Kind → Kind → Bool
 is j k = eqb (numberOf j) (numberOf k)
@@ -151,32 +145,32 @@ is j k = eqb (numberOf j) (numberOf k)
 abbrev pub spanForm : Kind → Form
 spanForm k =
     elim (is k kinds.String || is k kinds.Pair) [
-      | true ↦ string
-      | false ↦ elim (is k kinds.Bytes) [ true ↦ array | false ↦ elim (is k kinds.Float) [ true ↦ float | false ↦ named ] ]
+      | true ↦ Quoted
+      | false ↦ elim (is k kinds.Bytes) [ true ↦ Array | false ↦ elim (is k kinds.Float) [ true ↦ Float | false ↦ Named ] ]
     ]
 
 -- A float's mark is printed before its literal.
 abbrev pub markForm : Kind → Form
-markForm k = elim (is k kinds.Float) [ true ↦ nothing | false ↦ plain ]
+markForm k = elim (is k kinds.Float) [ true ↦ Hidden | false ↦ Plain ]
 
 abbrev pub signForm : Kind → Form
-signForm k = elim (is k kinds.Unary) [ true ↦ prefix | false ↦ sign ]
+signForm k = elim (is k kinds.Unary) [ true ↦ Prefix | false ↦ Sign ]
 
 abbrev pub formBy : Kind → Meaning → Form
-formBy k expression = plain
-formBy k statement = plain
-formBy k function = plain
-formBy k class = plain
-formBy k element = plain
-formBy k items = plain
+formBy k expression = Plain
+formBy k statement = Plain
+formBy k function = Plain
+formBy k class = Plain
+formBy k element = Plain
+formBy k items = Plain
 formBy k span = spanForm k
-formBy k low = int
-formBy k high = nothing
+formBy k low = Int
+formBy k high = Hidden
 formBy k mark = markForm k
 formBy k operator = signForm k
-formBy k id = plain
-formBy k number = plain
-formBy k unused = nothing
+formBy k id = Plain
+formBy k number = Plain
+formBy k unused = Hidden
 
 -- How the field with this index prints, by what the table of kinds says of it.
 abbrev pub formAt : Kind → ℕ → Form
@@ -184,15 +178,15 @@ formAt k i = formBy k (meaningAt k i)
 
 -- A field with the space before it, out of its word and the next.
 unfoldable pub field : Text → Form → ℕ → ℕ → Text
-field s nothing word next = []
-field s plain word next = 32 ∷ decimal word
-field s named word next = 32 ∷ name s word
-field s string word next = 32 ∷ quoted (spanned s word)
-field s array word next = bytes (spanned s word)
-field s float word next = 32 ∷ minus next ++ spanned s word
-field s int word next = 32 ∷ signed (wholeOf word next)
-field s prefix word next = 32 ∷ getD prefixes word []
-field s sign word next = 32 ∷ getD signs word []
+field s Hidden word next = []
+field s Plain word next = 32 ∷ decimal word
+field s Named word next = 32 ∷ name s word
+field s Quoted word next = 32 ∷ quoted (spanned s word)
+field s Array word next = bytes (spanned s word)
+field s Float word next = 32 ∷ minus next ++ spanned s word
+field s Int word next = 32 ∷ signed (wholeOf word next)
+field s Prefix word next = 32 ∷ getD prefixes word []
+field s Sign word next = 32 ∷ getD signs word []
 
 -- ---- lines
 

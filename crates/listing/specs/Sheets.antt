@@ -1,4 +1,5 @@
 -- SHEETS: a lent buffer of bytes, and the place in it that is written next. Assumes nothing.
+use mathlib.Core.Path.{_≡_}
 use mathlib.Core.Bool.{Bool, true, false}
 use mathlib.Core.List.{List, [], _∷_}
 use Prim.Native.Nat.{ℕ, _+_}
@@ -26,3 +27,8 @@ put b w = putBy (ltb (w .at) (length (w .out))) b w
 unfoldable pub wrote : Text → Sheet → Sheet
 wrote [] w = w
 wrote (b ∷ t) w = wrote t (put b w)
+
+-- What every printing function ensures: the sheet as it leaves it is the one that it was lent with these bytes more. So it determines the
+-- place answered and every byte of the buffer.
+pub record Writes (t : Text) (w later : Sheet) : Type 0 where
+  pub is : later ≡ wrote t w

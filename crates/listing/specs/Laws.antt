@@ -4,3 +4,5 @@ pub mod Numbers
 pub mod Texts
 pub mod Words
 pub mod Fields
+pub mod Kinds
+pub mod Lines

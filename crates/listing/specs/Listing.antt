@@ -18,7 +18,7 @@ use Rattle.records.specs.declared.kind.KindAt.the-variants.{Known, Unknown}
 use Rattle.records.specs.declared.row.Row.{Row}
 use Rattle.records.specs.declared.row.RowAt.{RowAt}
 use Rattle.records.specs.declared.row.RowAt.the-variants.{Here, Nothing}
-use Rattle.records.specs.Kinds.{Meaning, expression, statement, function, class, element, items, span, low, high, mark, operator, id, number, unused, shape, numberOf, meaningAt}
+use Rattle.records.specs.Kinds.{Meaning, expression, statement, function, class, items, span, low, high, mark, operator, id, number, unused, shape, numberOf, meaningAt}
 use Rattle.records.specs.Words.{spanOf, wholeOf}
 use Rattle.records.specs.Rows.{rowAt}
 use Rattle.listing.specs.declared.fields.Form.{Form}
@@ -47,7 +47,7 @@ place line column = decimal line ++ (58 ∷ decimal column)
 
 -- The bytes of a span, as far as they stand in the text.
 abbrev pub spanned : Text → ℕ → Text
-spanned s word = part s (spanOf word .start) (spanOf word .end)
+spanned s word = part s (spanOf word .from) (spanOf word .to)
 
 -- "name or `-`": 0 is no span.
 unfoldable pub name : Text → ℕ → Text
@@ -161,7 +161,6 @@ formBy k expression = Plain
 formBy k statement = Plain
 formBy k function = Plain
 formBy k class = Plain
-formBy k element = Plain
 formBy k items = Plain
 formBy k span = spanForm k
 formBy k low = Int
@@ -215,7 +214,7 @@ lineOf s n w = decimal n ++ (32 ∷ nameOf (w .kind)) ++ positioned (w .kind) (w
 
 abbrev pub lineBy : Text → ℕ → RowAt → Text
 lineBy s n (Here w) = lineOf s n w
-lineBy s n Nothing = decimal n ++ ascii " ?" ++ (10 ∷ [])
+lineBy s n Nothing = decimal n ++ (ascii " ?" ++ (10 ∷ []))
 
 -- The line of the record with this number. Where the pool has no such record, a `?` stands for it.
 unfoldable pub lineAt : Text → List ℕ → ℕ → Text

@@ -6,7 +6,7 @@ use crate::sheet::put;
 use crate::texts::bytes;
 use crate::texts::quoted;
 use literals::strings::part;
-use records::words::Span;
+use records::words::unpack;
 use records::words::whole;
 ghost use mathlib.Core.Path.{_≡_};
 ghost use mathlib.Core.List.{[], _∷_, _++_};
@@ -42,8 +42,8 @@ pub enum Form {
 fn spanned(text: &[u8], word: u32) -> &[u8]
     ensures { λ r. ⌜ now r ≡ spanned (now (text .entry)) word ⌝ }
 {
-    let span = Span::of(word);
-    part(text, span.start, span.end)
+    let span = unpack(word);
+    part(text, span.from, span.to)
 }
 
 // A number.

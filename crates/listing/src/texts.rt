@@ -2,12 +2,12 @@
 use crate::sheet::copy;
 use crate::sheet::put;
 use characters::place::Place;
+use characters::place::Span;
 use characters::tokens::Must;
 use literals::bytearrays::Mode;
 use literals::bytearrays::Seen;
 use literals::bytearrays::bytearray;
 use literals::bytearrays::step;
-use literals::strings::Span;
 use literals::strings::Spelled;
 use literals::strings::key;
 use literals::strings::piece;

@@ -1,0 +1,4 @@
+pub mod Sheets
+pub mod Listing
+pub mod Laws
+pub mod Examples

@@ -63,7 +63,7 @@ def unquoted(text):
 def examples():
     """What the proved examples say, as they are written."""
     for name in ("UnitExamples", "LimitExamples"):
-        with open(os.path.join(compare.ROOT, "crates", "grammar", "specs", name + ".antt"), encoding="utf-8") as file:
+        with open(os.path.join(compare.ROOT, "crates", "unit", "specs", name + ".antt"), encoding="utf-8") as file:
             yield file.read()
 
 

@@ -24,15 +24,15 @@ callOf s pool nest comps file = full s (capOf (length pool)) nest comps file
 abbrev pub recordsBy : Text → List ℕ → ℕ → ℕ → Bool → List Rec
 recordsBy s pool nest comps file = recordsOf (callOf s pool nest comps file .events)
 
--- READS: what an entry owes that was lent the pool `before`, answers r and leaves the pool `later`. "The caller gives: text; lent pool;
--- nesting limit; comparison limit; a mark."
-pub record Reads (s : Text) (nest comps : ℕ) (file : Bool) (r : Answer) (before later : List ℕ) : Type 0 where
+-- ENTERS: what an entry owes that was lent the pool `before`, answers r and leaves the pool `later`. "The full entry takes text, pool, nesting
+-- limit (1 to 256), comparison limit (any u32) and a mark."
+pub record Enters (s : Text) (nest comps : ℕ) (file : Bool) (r : Answer) (before later : List ℕ) : Type 0 where
   pub answer : r ≡ answerOf (callOf s before nest comps file)
   pub pool : later ≡ laid layout before 0 (recordsBy s before nest comps file)
 
 -- What the short entry owes: "string form, nesting 64 and 100,000 comparisons".
-abbrev pub ReadsShort : Text → Answer → List ℕ → List ℕ → Type 0
-ReadsShort s r before later = Reads s 64 100000 false r before later
+abbrev pub EntersShort : Text → Answer → List ℕ → List ℕ → Type 0
+EntersShort s r before later = Enters s 64 100000 false r before later
 
 -- THE UNLIMITED READING of a unit: "the same one with no limit behind 5, 6 and 7".
 abbrev pub unlimitedUnit : Text → Bool → Outcome

@@ -36,7 +36,7 @@ use Rattle.grammar.specs.Grammar.{grammar}
 use Rattle.grammar.specs.Units.{unitP, startOf, opening, full}
 use Rattle.unit.specs.Suits.Falling.{chosen}
 use Rattle.unit.specs.Suits.Units.{enoughLevels, suits}
-use Rattle.unit.specs.Entries.{callOf, recordsBy, Reads, unlimitedUnit, Told, Raised}
+use Rattle.unit.specs.Entries.{callOf, recordsBy, Enters, unlimitedUnit, Told, Raised}
 
 -- ---- texts that are short, and texts that are not
 
@@ -179,36 +179,36 @@ records-room s A nest comps file =
     let h : length (recordsBy s A nest comps file) ≤ capOf (length A) = full-counted s (capOf (length A)) nest comps file .records-within in
     omega arith
 
-module _ {s : Text} {nest comps : ℕ} {file : Bool} {r : Answer} {A B : List ℕ} (h : Reads s nest comps file r A B) where
+module _ {s : Text} {nest comps : ℕ} {file : Bool} {r : Answer} {A B : List ℕ} (h : Enters s nest comps file r A B) where
   records-told : r .records ≡ length (recordsBy s A nest comps file)
   records-told = ap (λ (x : Answer). x .records) (h .answer)
 
-  pub reads-within : (r .records ≤ capOf (length A)) × (r .comparisons ≤ comps)
-  reads-within =
+  pub enters-within : (r .records ≤ capOf (length A)) × (r .comparisons ≤ comps)
+  enters-within =
       let a : length (recordsBy s A nest comps file) ≤ capOf (length A) = full-counted s (capOf (length A)) nest comps file .records-within in
       let b : comparisonsOf (callOf s A nest comps file .events) ≤ comps = full-counted s (capOf (length A)) nest comps file .comparisons-within in
       let c = records-told in
       let d : r .comparisons ≡ comparisonsOf (callOf s A nest comps file .events) = ap (λ (x : Answer). x .comparisons) (h .answer) in
       (omega arith, omega arith)
 
-  pub reads-length : length B ≡ length A
-  reads-length = ap length (h .pool) ∙ laid-length (recordsBy s A nest comps file) A 0
+  pub enters-length : length B ≡ length A
+  enters-length = ap length (h .pool) ∙ laid-length (recordsBy s A nest comps file) A 0
 
-  pub reads-pool : B ≡ rowsOf (recordsBy s A nest comps file) ++ drop (r .records * width) A
-  reads-pool =
+  pub enters-pool : B ≡ rowsOf (recordsBy s A nest comps file) ++ drop (r .records * width) A
+  enters-pool =
       h .pool
       ∙ laid-whole (recordsBy s A nest comps file) A (records-room s A nest comps file)
       ∙ ap (λ (k : ℕ). rowsOf (recordsBy s A nest comps file) ++ drop (k * width) A) (sym records-told)
 
-  pub reads-past : (i : ℕ) → r .records * width ≤ i → getD B i 0 ≡ getD A i 0
-  reads-past i l =
+  pub enters-past : (i : ℕ) → r .records * width ≤ i → getD B i 0 ≡ getD A i 0
+  enters-past i l =
       ap (λ (p : List ℕ). getD p i 0) (h .pool)
       ∙ laid-past (recordsBy s A nest comps file) A 0 i (let c = records-told in omega arith)
 
-  pub reads-raised : {nest′ comps′ : ℕ} {r′ : Answer} {A′ B′ : List ℕ} → 1 ≤ nest → nest ≤ nest′ → nest′ ≤ 256 → length A ≤ length A′ → comps ≤ comps′
-      → Reads s nest′ comps′ file r′ A′ B′
+  pub enters-raised : {nest′ comps′ : ℕ} {r′ : Answer} {A′ B′ : List ℕ} → 1 ≤ nest → nest ≤ nest′ → nest′ ≤ 256 → length A ≤ length A′ → comps ≤ comps′
+      → Enters s nest′ comps′ file r′ A′ B′
       → Raised r r′ B B′
-  reads-raised {nest′} {comps′} {r′} {A′} {B′} a b c d e h′ =
+  enters-raised {nest′} {comps′} {r′} {A′} {B′} a b c d e h′ =
       let rs : List Rec = recordsBy s A nest comps file in
       let l : capOf (length A) ≤ capOf (length A′) = omega arith in
       let g = full-grows s (capOf (length A)) (capOf (length A′)) nest nest′ comps comps′ file a b c l e in
@@ -236,7 +236,7 @@ module _ {s : Text} {nest comps : ℕ} {file : Bool} {r : Answer} {A B : List �
       }
 
 -- Code that says the call's outcome meets the contract.
-pub reads-said : {s : Text} {nest comps : ℕ} {file : Bool} {r : Out} {A B : List ℕ} → Says layout (callOf s A nest comps file) start r A B
-    → Reads s nest comps file (answerFrom r) A B
-reads-said {s} {nest} {comps} {file} {r} {A} {B} h =
+pub enters-said : {s : Text} {nest comps : ℕ} {file : Bool} {r : Out} {A B : List ℕ} → Says layout (callOf s A nest comps file) start r A B
+    → Enters s nest comps file (answerFrom r) A B
+enters-said {s} {nest} {comps} {file} {r} {A} {B} h =
     record { answer = says-answer layout (callOf s A nest comps file) r A B h; pool = h .pool }

@@ -26,35 +26,35 @@ use Rattle.records.specs.Meanings.{AllMeant}
 use Rattle.grammar.specs.Grammar.{grammar}
 use Rattle.grammar.specs.Units.{unitP, startOf, opening, full}
 use Rattle.unit.specs.Suits.Units.{enoughLevels}
-use Rattle.unit.specs.Entries.{callOf, recordsBy, Reads, unlimitedUnit, Told, Raised}
+use Rattle.unit.specs.Entries.{callOf, recordsBy, Enters, unlimitedUnit, Told, Raised}
 use Rattle.unit.specs.EntryLaws as Entry
 
 -- ---- DEMAND 1: what a call answers is determined
 
 module _ (s : Text) (nest comps : ℕ) (file : Bool) where
   -- Every text, pool and set of limits has an answer;
-  pub answered : (A : List ℕ) → Reads s nest comps file (answerOf (callOf s A nest comps file)) A (laid layout A 0 (recordsBy s A nest comps file))
+  pub answered : (A : List ℕ) → Enters s nest comps file (answerOf (callOf s A nest comps file)) A (laid layout A 0 (recordsBy s A nest comps file))
   answered A = record { answer = refl; pool = refl }
 
   -- and no second: the number, the place, both counts and every word of the pool are determined, of refused calls too.
-  pub determined : {r r′ : Answer} {A B B′ : List ℕ} → Reads s nest comps file r A B → Reads s nest comps file r′ A B′ → (r ≡ r′) × (B ≡ B′)
+  pub determined : {r r′ : Answer} {A B B′ : List ℕ} → Enters s nest comps file r A B → Enters s nest comps file r′ A B′ → (r ≡ r′) × (B ≡ B′)
   determined h h′ = (h .answer ∙ sym (h′ .answer), h .pool ∙ sym (h′ .pool))
 
-  module _ {r : Answer} {A B : List ℕ} (h : Reads s nest comps file r A B) where
+  module _ {r : Answer} {A B : List ℕ} (h : Enters s nest comps file r A B) where
     -- The pool holds the records made, row after row, and every other word is as it was.
     pub pool : B ≡ rowsOf (recordsBy s A nest comps file) ++ drop (r .records * width) A
-    pool = Entry.reads-pool h
+    pool = Entry.enters-pool h
 
     -- "Pool words past the records made stay untouched in every answer."
     pub untouched : (i : ℕ) → r .records * width ≤ i → getD B i 0 ≡ getD A i 0
-    untouched i l = Entry.reads-past h i l
+    untouched i l = Entry.enters-past h i l
 
     pub as-long : length B ≡ length A
-    as-long = Entry.reads-length h
+    as-long = Entry.enters-length h
 
     -- "The record limit is the number of whole records in the pool, at most 65,535": neither count passes its limit.
     pub within : (r .records ≤ capOf (length A)) × (r .comparisons ≤ comps)
-    within = Entry.reads-within h
+    within = Entry.enters-within h
 
 module _ (s : Text) (cap nest comps : ℕ) (file : Bool) where
   -- "1, 2, 3 are checked in that order, before reading, with both counts 0."
@@ -110,8 +110,8 @@ module _ (s : Text) (cap cap′ nest nest′ comps comps′ : ℕ) (file : Bool)
 
 -- The same of what two calls leave, the second lent a pool as long or longer: the words of the first's records are the second's.
 pub raised : {s : Text} {nest nest′ comps comps′ : ℕ} {file : Bool} {r r′ : Answer} {A A′ B B′ : List ℕ} → 1 ≤ nest → nest ≤ nest′ → nest′ ≤ 256
-    → length A ≤ length A′ → comps ≤ comps′ → Reads s nest comps file r A B → Reads s nest′ comps′ file r′ A′ B′ → Raised r r′ B B′
-raised a b c d e h h′ = Entry.reads-raised h a b c d e h′
+    → length A ≤ length A′ → comps ≤ comps′ → Enters s nest comps file r A B → Enters s nest′ comps′ file r′ A′ B′ → Raised r r′ B B′
+raised a b c d e h h′ = Entry.enters-raised h a b c d e h′
 
 module _ (s : Text) (cap nest comps : ℕ) (file : Bool) (l : length s ≤ 65535) (u : wellFormed s ≡ true) (a : 1 ≤ nest) (b : nest ≤ 256) where
   -- 5, 6 and 7 are given exactly where the unlimited reading crosses that limit, before it crosses another and before it stops otherwise,

@@ -1,3 +1,4 @@
+pub mod Promises
 pub mod Sheets
 pub mod Listing
 pub mod Laws

@@ -6,3 +6,4 @@ pub mod Words
 pub mod Fields
 pub mod Kinds
 pub mod Lines
+pub mod Lengths

@@ -2,9 +2,10 @@
 use mathlib.Core.Path.{_≡_}
 use mathlib.Core.List.{List, _++_}
 use Prim.Native.Nat.{ℕ, _+_, _-_, _≤_, _<_}
-use lib.ListN.{length, take, drop}
+use lib.ListN.{length, getD, take, drop}
 use Rattle.characters.specs.Text.{Text}
 use Rattle.listing.specs.Sheets.{Sheet, Writes, sheet}
+use Rattle.listing.specs.Listing.{lineAt}
 use Rattle.listing.specs.Laws.Sheets.{writes-one, writes-fitting, writes-cut}
 
 -- One sheet alone meets the contract: the place answered and each byte of the buffer are determined.
@@ -20,3 +21,7 @@ fitting = writes-fitting
 pub cut : {t : Text} {out later : List ℕ} {at r : ℕ} → at ≤ length out → length out < at + length t → Writes t (sheet out at) (sheet later r)
     → (r ≡ length out + 1) × (later ≡ take at out ++ take (length out - at) t)
 cut = writes-cut
+
+-- A record's line is at most 262,209 bytes long, whatever the text and the pool, whose words are of 32 bits.
+pub line-short : (s : Text) (pool : List ℕ) (n : ℕ) → n < 4294967296 → ((i : ℕ) → getD pool i 0 < 4294967296) → length (lineAt s pool n) ≤ 262209
+line-short = at-length

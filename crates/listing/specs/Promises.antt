@@ -7,6 +7,7 @@ use Rattle.characters.specs.Text.{Text}
 use Rattle.listing.specs.Sheets.{Sheet, Writes, sheet}
 use Rattle.listing.specs.Listing.{lineAt}
 use Rattle.listing.specs.Laws.Sheets.{writes-one, writes-fitting, writes-cut}
+use Rattle.listing.specs.Laws.Lengths.{at-length}
 
 -- One sheet alone meets the contract: the place answered and each byte of the buffer are determined.
 pub determined : {t : Text} {w l m : Sheet} → Writes t w l → Writes t w m → l ≡ m

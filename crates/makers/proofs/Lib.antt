@@ -1,0 +1,2 @@
+mod Reducing
+mod Ending

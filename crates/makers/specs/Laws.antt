@@ -1,0 +1,9 @@
+-- The laws of the makers' contracts, and what the cycle's readers come to by them.
+pub mod Acts
+pub mod Turns
+pub mod Chains
+pub mod Chaining
+pub mod PlainEnds
+pub mod PlainMade
+pub mod PlainGrouped
+pub mod Plain

@@ -1,0 +1,4 @@
+pub mod Contracts
+pub mod Chains
+pub mod Plain
+pub mod Laws

@@ -72,7 +72,17 @@ pub fn reduce(pool: &mut [u32], cap: u32, t: Tally, at: Place, chain: Chain, new
             break;
         }
         let left = waits.left as u32;
-        let made = make_like(pool, cap, tally, at, Kind::Binary, left, op, left, tally.records);
+        let made = make_like(
+            pool,
+            cap,
+            tally,
+            at,
+            Kind::Binary,
+            left,
+            op,
+            left,
+            tally.records,
+        );
         let Got::Read { at: _, tally: u } = made else {
             return Reduced { len: 0, got: made };
         };

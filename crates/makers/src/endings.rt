@@ -51,7 +51,15 @@ pub fn stated(pool: &mut [u32], cap: u32, t: Tally, last: u32, at: Place) -> Got
 }
 
 // A function whose parameters are read and whose body is the last record: its id, then its record.
-pub fn make_fun(pool: &mut [u32], cap: u32, t: Tally, from: Place, name: u32, params: u32, at: Place) -> Got
+pub fn make_fun(
+    pool: &mut [u32],
+    cap: u32,
+    t: Tally,
+    from: Place,
+    name: u32,
+    params: u32,
+    at: Place,
+) -> Got
     requires { ⌜ Room (now pool) cap t ⌝ }
     ensures { λ r. ⌜ Acts cap at t (funP from name (plain params at) (lastOf (now (pool .entry)) t) at) r (now (pool .entry)) (now (pool .exit)) ⌝ }
 {
@@ -104,11 +112,29 @@ pub fn make_for(
 }
 
 // The target `target` with an operator and the value that is the last record, and the assignment of that.
-pub fn combine(pool: &mut [u32], cap: u32, t: Tally, from: Place, op: u32, target: u32, at: Place) -> Got
+pub fn combine(
+    pool: &mut [u32],
+    cap: u32,
+    t: Tally,
+    from: Place,
+    op: u32,
+    target: u32,
+    at: Place,
+) -> Got
     requires { ⌜ Room (now pool) cap t × (1 ≤ target) × (target ≤ t .records) ⌝ }
     ensures { λ r. ⌜ Acts cap at t (combineP from op (nodeAt (now (pool .entry)) target) (lastOf (now (pool .entry)) t) at) r (now (pool .entry)) (now (pool .exit)) ⌝ }
 {
-    let sum = make_like(pool, cap, t, at, Kind::Binary, target, op, target, t.records);
+    let sum = make_like(
+        pool,
+        cap,
+        t,
+        at,
+        Kind::Binary,
+        target,
+        op,
+        target,
+        t.records,
+    );
     let Got::Read { at: q, tally: u } = sum else {
         return sum;
     };
@@ -130,7 +156,15 @@ pub fn is_target(kind: u32) -> bool
 
 // break: 'break' ';'    continue: 'continue' ';'
 // After the keyword, which is one record of this kind.
-pub fn jump(text: &[u8], pool: &mut [u32], cap: u32, kind: Kind, from: Place, at: Place, t: Tally) -> Got
+pub fn jump(
+    text: &[u8],
+    pool: &mut [u32],
+    cap: u32,
+    kind: Kind,
+    from: Place,
+    at: Place,
+    t: Tally,
+) -> Got
     requires { ⌜ Ready (now text) (now pool) cap at t ⌝ }
     ensures { λ r. ⌜ Alone (now (text .entry)) cap at t (jumpP (now (text .entry)) kind from at) r (now (pool .entry)) (now (pool .exit)) ⌝ }
 {

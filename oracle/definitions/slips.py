@@ -11,7 +11,8 @@ Of UnitExamples.antt the five numbers of an answer alone count, because the rule
 texts are asked where the examples don't tell. Of the second reading, calls are asked until one differs, those of the examples first.
 
 Prints a line for each slip that the examples don't tell, or that survives, then `N slips: ..`. A slip survives if examples and
-replays together don't tell it, or the second reading doesn't. The status is 1 if one does. Needs what limits.py needs, and `python3 oracle/definitions/model.py` run before.
+replays together don't tell it, or the second reading doesn't. The status is 1 if one does, and 2 if slips.txt must be brought up to
+the definitions. Needs what limits.py needs, and `python3 oracle/definitions/model.py` run before.
 """
 
 import concurrent.futures
@@ -29,7 +30,7 @@ import limits
 
 HERE = compare.HERE
 CHUNK = 150         # calls that are asked before the answers are looked at
-LONG = 1000         # a text of more bytes is left to the last chunks
+LONG = 1000         # a text of more bytes is long
 
 
 def slips(word):
@@ -93,6 +94,22 @@ def example_calls():
 
 # ---- a model with a slip -------------------------------------------------
 
+def spec_of(root, name):
+    """A spec file's path and its text."""
+    crate, file = name.split("/")
+    path = os.path.join(root, "crates", crate, "specs", file + ".antt")
+    with open(path, encoding="utf-8") as spec:
+        return path, spec.read()
+
+
+def outdated(every):
+    """A line for each slip whose words don't stand in their file once: a definition was moved or said anew."""
+    for title, name, old, _, _ in every:
+        count = spec_of(compare.ROOT, name)[1].count(old)
+        if count != 1:
+            yield "%s: stands %d times in %s: %s" % (title, count, name, old)
+
+
 def copy_with(slip, folder):
     """The model of the definitions with this slip."""
     title, name, old, new, uses = slip
@@ -103,12 +120,7 @@ def copy_with(slip, folder):
     os.makedirs(os.path.join(folder, "oracle", "definitions"))
     for file in ("model.py", "hand.js"):
         shutil.copy(os.path.join(HERE, file), os.path.join(folder, "oracle", "definitions"))
-    crate, file = name.split("/")
-    path = os.path.join(folder, "crates", crate, "specs", file + ".antt")
-    with open(path, encoding="utf-8") as spec:
-        text = spec.read()
-    if text.count(old) != 1:
-        raise SystemExit("%s: %r stands %d times in %s" % (title, old, text.count(old), name))
+    path, text = spec_of(folder, name)
     head, _, rest = text.partition("\nuse ")
     with open(path, "w", encoding="utf-8") as spec:
         spec.write("\n".join([head, *uses]) + "\nuse " + rest.replace(old, new))
@@ -159,9 +171,10 @@ class Base:
 
 
 def further_calls():
-    """The texts of limits.py, of the generated ones some, with their limits; the long ones last."""
+    """The texts of limits.py, of the generated ones some, with their limits. The long ones come first without, and last with limits."""
     chosen = [(text.encode() if isinstance(text, str) else text, *rest) for text, *rest in limits.chosen(400)]
     chosen.sort(key=lambda one: len(one[0]) > LONG)
+    yield from ((text, form, limits.HIGHEST) for text, form, _, _ in chosen if LONG < len(text) < 60000)
     reached = limits.second([(text, form, limits.HIGHEST) for text, form, _, _ in chosen])
     for (text, form, how, more), answer in zip(chosen, reached):
         needs = tuple(limits.split(answer)[0][3:])
@@ -170,6 +183,10 @@ def further_calls():
 
 def main():
     every = list(slips(sys.argv[1] if len(sys.argv) > 1 else ""))
+    lost = list(outdated(every))
+    if lost:
+        print("\n".join(lost))
+        sys.exit(2)
     base = Base()
     counts, survivors = [0, 0, 0], 0
     with concurrent.futures.ThreadPoolExecutor(os.cpu_count()) as pool:

@@ -388,7 +388,7 @@ duplicates :
 unfolding entered recordsOf comparisonsOf
 duplicates = (refl, refl, refl, refl, refl, refl)
 
--- 25 before the pending binary, 28 after `else`; plus adds no record, each minus one; an index is a target; 10 after blanks; past the end
+-- 25 before the pending binary, 28 after `else`; plus adds no record, each minus one; an index is a target; `nil` is implied; 10 after blanks; past the end
 -- the column moves
 refusals :
     Answers (ascii "f(a + b = 1);") (says 25 1 9 3 0)
@@ -396,10 +396,11 @@ refusals :
     × Answers (ascii "x = +2;") (says 0 1 8 6 0)
     × Answers (ascii "x = - -2;") (says 0 1 10 8 0)
     × Answers (ascii "a[1] = 2;") (says 0 1 10 8 0)
+    × Answers (ascii "return;") (says 0 1 8 5 0)
     × Answers (ascii "f(1  ") (says 10 1 6 3 0)
     × Answers (ascii "x = \"\\") (says 20 1 8 1 0)
 unfolding entered recordsOf comparisonsOf
-refusals = (refl, refl, refl, refl, refl, refl, refl)
+refusals = (refl, refl, refl, refl, refl, refl, refl, refl)
 
 -- 6 and 5 where the Rust has come to
 places :

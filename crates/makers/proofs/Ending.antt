@@ -11,7 +11,7 @@ use Rattle.characters.specs.declared.refusal.Refusal.{Refusal}
 use Rattle.characters.specs.declared.refusal.Refusal.the-variants.{InvalidTarget}
 use Rattle.characters.specs.declared.tokens.Must.{Must}
 use Rattle.characters.specs.declared.tokens.Must.the-variants.{Taken, Failed}
-use Rattle.characters.specs.Text.{Text, onBy}
+use Rattle.characters.specs.Text.{onBy}
 use Rattle.characters.specs.Tokens.{expected}
 use Rattle.reading.specs.declared.node.Node.{Node}
 use Rattle.reading.specs.declared.tally.Tally.{Tally}
@@ -34,7 +34,7 @@ use Rattle.grammar.specs.Statements.{jumpP, targetP, isTarget, combineP, increm
 use Rattle.grammar.specs.Reads.{Ready, Reads}
 use Rattle.grammar.specs.ReadLaws.{reads-on, reads-then, reads-stop, refuses, reads-valued, reads-numbered, reads-fresh, ready-then, leaf-row}
 use Rattle.makers.specs.Contracts.{Begun, lastOf, Room, Acts, Alone, targetKind}
-use Rattle.makers.specs.Laws.Acts.{room-of, reads-from, ready-need, reads-taken, reads-failed, acts-valued}
+use Rattle.makers.specs.Laws.Acts.{not-true, not-false, room-of, reads-from, ready-need, reads-taken, reads-failed, acts-valued}
 
 -- ---- kinds
 
@@ -117,14 +117,6 @@ module _ {s A : List ℕ} {cap : ℕ} {at : Place} {t : Tally} (g : Ready s A ca
       }
 
 -- ---- the step of `++` or `--`
-
-not-true : (b : Bool) → not b ≡ true → b ≡ false
-not-true true e = sym e
-not-true false e = refl
-
-not-false : (b : Bool) → not b ≡ false → b ≡ true
-not-false true e = refl
-not-false false e = sym e
 
 module _ {s A : List ℕ} {cap : ℕ} {at : Place} {t : Tally} (g : Begun s A cap at t) (end : ℕ) (from : Place) (op : ℕ) {kind : ℕ} {b : Bool}
     (e : kind ≡ kindAt A (t .records)) (f : b ≡ targetKind kind) where

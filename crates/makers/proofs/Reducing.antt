@@ -1,7 +1,7 @@
 -- The loop of `reduce`, one binary at a time: what is left of the rule answers for the whole. Assumes nothing.
 use mathlib.Core.Path.{_≡_, refl, sym, ap, subst, subst⁻¹, _∙_}
 use mathlib.Core.List.{List, [], _∷_}
-use Prim.Native.Nat.{ℕ, zero, suc, _+_, _-_, _≤_, _<_}
+use Prim.Native.Nat.{ℕ, suc, _+_, _-_, _≤_, _<_}
 use native.Mathlib.Omega.{arith}
 use lib.ListN.{length, getD}
 use borrow.Author.Tests.{le-leb, lt-leb}
@@ -15,20 +15,19 @@ use Rattle.reading.specs.declared.answer.Out.{Out}
 use Rattle.reading.specs.declared.answer.Out.the-variants as out
 use Rattle.reading.specs.Process.{Grammar}
 use Rattle.reading.specs.Says.{Does}
-use Rattle.reading.specs.Laws.Does.{by-make, then, stops, yes-way, no-way, does-within, does-more}
+use Rattle.reading.specs.Laws.Does.{by-make, then, stops, yes-way, no-way, does-within}
 use Rattle.records.specs.declared.kind.Kind.the-variants as kinds
-use Rattle.records.specs.Rows.{recordOf, layout, Lent}
+use Rattle.records.specs.Rows.{layout}
 use Rattle.records.specs.Nodes.{Keeps, MakesRow, rowLike}
 use Rattle.records.specs.Laws.Nodes.{row-read, keeps-layout, read-of, refused-of}
 use Rattle.grammar.specs.declared.chain.Waiting.{Waiting}
 use Rattle.grammar.specs.Operators.{strengthOf}
-use Rattle.grammar.specs.Expressions.{Routine, Rule, Pending, binaryRow, reduceP}
+use Rattle.grammar.specs.Expressions.{Routine, Rule, Pending, reduceP}
 use Rattle.grammar.specs.Chains.{Rising, bottom, above}
 use Rattle.grammar.specs.ChainLaws.{rising-from}
 use Rattle.grammar.specs.Grammar.{grammar}
 use Rattle.makers.specs.declared.chains.Pends.{Pends}
 use Rattle.makers.specs.declared.chains.Chain.{Chain}
-use Rattle.makers.specs.declared.chains.Reduced.{Reduced}
 use Rattle.makers.specs.Contracts.{lastOf, Room}
 use Rattle.makers.specs.Chains.{nothing, waitsAt, entries, pendingOf, Sides, Rises, Reduces}
 use Rattle.makers.specs.Laws.Chains.{ten-enough, sides-on, pending-kept}

@@ -7,7 +7,6 @@ use Rattle.characters.specs.declared.place.Place.{Place}
 use Rattle.characters.specs.declared.refusal.Refusal.{Refusal}
 use Rattle.reading.specs.declared.node.Node.{Node}
 use Rattle.reading.specs.declared.tally.Tally.{Tally}
-use Rattle.reading.specs.declared.answer.Got.{Got}
 use Rattle.reading.specs.declared.answer.Got.the-variants.{Read, Refused}
 use Rattle.reading.specs.declared.answer.Out.{Out}
 use Rattle.reading.specs.declared.answer.Out.the-variants as out

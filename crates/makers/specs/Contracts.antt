@@ -1,5 +1,4 @@
 -- What a reader is called with, and what it owes, where it isn't `Reads` of the grammar's specs alone. Assumes nothing.
-use mathlib.Core.Path.{_≡_}
 use mathlib.Core.Bool.{Bool, _||_}
 use mathlib.Core.List.{List}
 use Prim.Native.Nat.{ℕ, zero, suc, _≤_}

@@ -7,3 +7,6 @@ pub mod PlainEnds
 pub mod PlainMade
 pub mod PlainGrouped
 pub mod Plain
+pub mod Names
+pub mod NamesWalk
+pub mod NamesRead

@@ -1,4 +1,5 @@
 pub mod Contracts
 pub mod Chains
 pub mod Plain
+pub mod Names
 pub mod Laws

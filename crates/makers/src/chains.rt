@@ -6,10 +6,9 @@ use reading::tally::Tally;
 use records::kind::Kind;
 use records::nodes::make_like;
 ghost use mathlib.Core.Path.{_≡_};
-ghost use mathlib.Core.List.{[]};
 ghost use Prim.Native.Nat.{_≤_, _<_};
 ghost use Rattle.makers.specs.Contracts.{Room};
-ghost use Rattle.makers.specs.Chains.{Pushed, Reduces, Rises, pendingOf};
+ghost use Rattle.makers.specs.Chains.{Pushed, Reduces, Rises};
 
 // An operator that waits for its right side: its number, and its left side's record, whose position the binary takes.
 pub struct Pends {

@@ -1,10 +1,9 @@
 -- Laws of rules that call no routine: what their contracts give a reader, and how a return of theirs comes about. Assumes nothing.
 use mathlib.Core.Path.{_≡_, refl, sym, ap, subst, subst⁻¹, _∙_}
-use mathlib.Core.Bool.{Bool, true, false}
+use mathlib.Core.Bool.{Bool, true, false, not}
 use mathlib.Core.List.{List, [], _∷_}
 use Prim.Native.Nat.{ℕ, _+_, _≤_}
 use native.Mathlib.Omega.{arith}
-use lib.Dec.{eqb}
 use Rattle.characters.specs.declared.place.Place.{Place}
 use Rattle.characters.specs.declared.refusal.Refusal.{Refusal}
 use Rattle.characters.specs.declared.tokens.Look.{Look}
@@ -12,7 +11,7 @@ use Rattle.characters.specs.declared.tokens.Look.the-variants.{Found, Missing, 
 use Rattle.characters.specs.declared.tokens.Must.{Must}
 use Rattle.characters.specs.declared.tokens.Must.the-variants.{Taken, Failed}
 use Rattle.characters.specs.Text.{Text, Stands, onBy}
-use Rattle.characters.specs.PlaceLaws.{Reached, Advanced, reached-here}
+use Rattle.characters.specs.PlaceLaws.{Advanced, reached-here}
 use Rattle.characters.specs.Tokens.{token, expected, needed}
 use Rattle.characters.specs.TokenLaws.{TokenOn, token-on}
 use Rattle.reading.specs.declared.node.Node.{Node}
@@ -29,9 +28,19 @@ use Rattle.records.specs.Nodes.{Stored, valueOf, nodeAt, MakesRow}
 use Rattle.records.specs.Laws.Nodes.{stored-made, row-as}
 use Rattle.grammar.specs.Expressions.{Routine}
 use Rattle.grammar.specs.Grammar.{grammar}
-use Rattle.grammar.specs.Reads.{Ready, Ends, Reads}
+use Rattle.grammar.specs.Reads.{Ready, Reads}
 use Rattle.grammar.specs.ReadLaws.{ahead, read-ends, reads-on, reads-then, reads-stop, refuses, reads-make, reads-valued, ready-then, ready-at}
 use Rattle.makers.specs.Contracts.{Begun, lastOf, Room, Acts, Alone}
+
+-- ---- a test that the code turns round
+
+pub not-true : (b : Bool) → not b ≡ true → b ≡ false
+not-true true e = sym e
+not-true false e = refl
+
+pub not-false : (b : Bool) → not b ≡ false → b ≡ true
+not-false true e = refl
+not-false false e = sym e
 
 -- ---- what the next one may be called with
 

@@ -1,26 +1,24 @@
 -- The loop over a chain of operators: what is left of it answers for the whole, one law for each link. Assumes nothing.
-use mathlib.Core.Path.{_≡_, refl, sym, ap, subst, subst⁻¹, _∙_}
+use mathlib.Core.Path.{_≡_, refl, sym, subst, subst⁻¹, _∙_}
 use mathlib.Core.Bool.{Bool, true, false}
 use mathlib.Core.List.{List, [], _∷_}
-use Prim.Native.Nat.{ℕ, suc, _+_, _-_, _≤_, _<_}
+use Prim.Native.Nat.{ℕ, suc, _-_, _≤_, _<_}
 use native.Mathlib.Omega.{arith}
 use lib.ListN.{length}
 use Rattle.characters.specs.declared.place.Place.{Place}
 use Rattle.characters.specs.declared.refusal.Refusal.{Refusal}
 use Rattle.characters.specs.declared.refusal.Refusal.the-variants.{AssignmentAsExpression}
-use Rattle.characters.specs.Text.{Text, Stands}
-use Rattle.characters.specs.PlaceLaws.{Reached, Advanced, reached-on, advanced-reached}
+use Rattle.characters.specs.Text.{Text}
+use Rattle.characters.specs.PlaceLaws.{Reached, Advanced}
 use Rattle.reading.specs.declared.node.Node.{Node}
 use Rattle.reading.specs.declared.tally.Tally.{Tally}
 use Rattle.reading.specs.declared.answer.Got.{Got}
 use Rattle.reading.specs.declared.answer.Got.the-variants.{Read, Refused}
 use Rattle.reading.specs.declared.answer.Out.{Out}
-use Rattle.reading.specs.declared.answer.Out.the-variants as out
 use Rattle.reading.specs.Process.{bind}
 use Rattle.reading.specs.Says.{Does}
 use Rattle.reading.specs.Laws.Does.{by-stop, then, stops, yes-way, no-way, does-more}
 use Rattle.records.specs.Rows.{layout}
-use Rattle.records.specs.Nodes.{outOf}
 use Rattle.records.specs.Laws.Nodes.{does-keeps, does-length, read-of, refused-of}
 use Rattle.grammar.specs.declared.leaves.Link.{Link}
 use Rattle.grammar.specs.declared.leaves.Link.the-variants.{Choice, Operator, Assign, End}
@@ -34,7 +32,7 @@ use Rattle.grammar.specs.ReadLaws.{read-ends, reads-on, refuses}
 use Rattle.makers.specs.declared.chains.Chain.{Chain}
 use Rattle.makers.specs.declared.chains.Reduced.{Reduced}
 use Rattle.makers.specs.Contracts.{Begun, lastOf, Room}
-use Rattle.makers.specs.Chains.{entries, pendingOf, Rises, Pushed, Reduces}
+use Rattle.makers.specs.Chains.{pendingOf, Rises, Pushed, Reduces}
 use Rattle.makers.specs.Laws.Acts.{room-of, begun-then, reads-refused}
 use Rattle.makers.specs.Laws.Turns.{Turning, turn-first, turn-on, turn-fuel, turn-less, go-on, same-turns}
 use Rattle.makers.specs.Laws.Chains.{pending-none, rises-none, reduces-by, reduces-done, reduces-length, begun-reduced, reduced-room, pushed-pending, pushed-rises}

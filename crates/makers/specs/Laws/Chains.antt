@@ -10,28 +10,23 @@ use lib.ListN.{length, getD, set, List·getD-eq-default}
 use lib.Seq.{getD-set-same, getD-set-other}
 use borrow.Author.Tests.{leb-true, leb-false, ltb-true, ltb-false}
 use Rattle.characters.specs.declared.place.Place.{Place}
-use Rattle.characters.specs.declared.refusal.Refusal.{Refusal}
 use Rattle.characters.specs.Text.{Text, Stands}
-use Rattle.reading.specs.declared.node.Node.{Node}
 use Rattle.reading.specs.declared.tally.Tally.{Tally}
 use Rattle.reading.specs.declared.answer.Got.{Got}
 use Rattle.reading.specs.declared.answer.Got.the-variants.{Read, Refused}
-use Rattle.reading.specs.declared.answer.Out.{Out}
 use Rattle.reading.specs.declared.answer.Out.the-variants as out
 use Rattle.reading.specs.Process.{Grammar, done}
 use Rattle.reading.specs.Says.{Does}
 use Rattle.reading.specs.Laws.Does.{by-done, told}
 use Rattle.records.specs.Rows.{layout}
-use Rattle.records.specs.Nodes.{placeAt, nodeAt, outOf, Keeps}
+use Rattle.records.specs.Nodes.{outOf, Keeps}
 use Rattle.records.specs.Laws.Rows.{lent-kept}
-use Rattle.records.specs.Laws.Nodes.{place-kept, does-keeps, does-length}
-use Rattle.grammar.specs.declared.chain.Waiting.{Waiting}
+use Rattle.records.specs.Laws.Nodes.{place-kept, does-length}
 use Rattle.grammar.specs.Operators.{Operator, operators, operatorOf, strengthOf}
 use Rattle.grammar.specs.LinkLaws.{strengths}
-use Rattle.grammar.specs.Expressions.{Routine, Rule, Pending, waits, reduceP}
+use Rattle.grammar.specs.Expressions.{Routine, Pending, waits, reduceP}
 use Rattle.grammar.specs.Chains.{Rising, bottom, above}
 use Rattle.grammar.specs.Grammar.{grammar}
-use Rattle.grammar.specs.Reads.{Ready}
 use Rattle.makers.specs.declared.chains.Pends.{Pends}
 use Rattle.makers.specs.declared.chains.Chain.{Chain}
 use Rattle.makers.specs.declared.chains.Reduced.{Reduced}

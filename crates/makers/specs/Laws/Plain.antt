@@ -7,8 +7,7 @@ use native.Mathlib.Omega.{arith}
 use lib.ListN.{length}
 use Rattle.characters.specs.declared.place.Place.{Place}
 use Rattle.characters.specs.Text.{Text, Stands, onBy}
-use Rattle.characters.specs.PlaceLaws.{Reached, reached-here, reached-on}
-use Rattle.reading.specs.declared.node.Node.{Node}
+use Rattle.characters.specs.PlaceLaws.{Reached, reached-here}
 use Rattle.reading.specs.declared.tally.Tally.{Tally}
 use Rattle.reading.specs.declared.answer.Out.{Out}
 use Rattle.reading.specs.declared.answer.Out.the-variants as out
@@ -20,7 +19,6 @@ use Rattle.reading.specs.Says.{Does}
 use Rattle.reading.specs.Laws.Does.{by-done, then, yes-way, along, enter}
 use Rattle.records.specs.Kinds.{numberOf}
 use Rattle.records.specs.Rows.{Lent, Lays, layout}
-use Rattle.records.specs.Nodes.{nodeAt, outOf}
 use Rattle.records.specs.Laws.Nodes.{row-made}
 use Rattle.grammar.specs.declared.leaves.Prefix.{Prefix}
 use Rattle.grammar.specs.declared.leaves.Prefix.the-variants.{Other}
@@ -35,14 +33,14 @@ use Rattle.grammar.specs.Reads.{Ready, Reads}
 use Rattle.grammar.specs.ReadLaws.{reads-on, reads-then, reads-leaf, ready-at, ready-then}
 use Rattle.makers.specs.Contracts.{Begun, lastOf}
 use Rattle.makers.specs.Plain.{nearOf, PlainMade, Plain, Rests, EndsBy, Over, routineBy, restP}
-use Rattle.makers.specs.Laws.PlainEnds.{reached, prefix-near, postfix-near}
+use Rattle.makers.specs.Laws.PlainEnds.{reached, near-stands, prefix-near, postfix-near}
 use Rattle.makers.specs.Laws.PlainGrouped.{grouped}
 
 -- ---- what `plain` is called with, and what it leads to
 
 pub plain-called : {s pool : List ℕ} {cap : ℕ} {at from : Place} {t : Tally} → Ready s pool cap at t → from ≡ nearOf s at
     → (length s ≤ 65535) × Stands s from × Lent pool cap × (cap ≤ 65535)
-plain-called {s} {at = at} g e = (g .short, subst⁻¹ (Stands s) e (reached s at (g .stands) .stands), g .lent, g .small)
+plain-called g e = (g .short, near-stands (g .stands) e, g .lent, g .small)
 
 -- nothing was read: the pool is as it was
 pub plain-not : {s : Text} {cap : ℕ} {from : Place} {made n : ℕ} {A B : List ℕ} → Plain s cap from made n A B → n ≡ 0 → A ≡ B
@@ -141,10 +139,8 @@ chain-over {s} {cap} {comps} {left} {q} {u} {assigning} {b} {B} g h y = ended g 
 -- so what was read before it is the expression
 pub reads-over : {s : Text} {cap comps left : ℕ} {from q : Place} {t u : Tally} {X : Process Routine} {r : Got} {assigning b : Bool} {A B : List ℕ}
     → r ≡ Read q u → Reads s cap comps left from t X r A B → Begun s B cap q u → Over s q assigning b → b ≡ true
-    → Reads s cap comps left from t (bind X (λ p e. chainP (turns s) s assigning [] e p)) r A B
-reads-over {s} {cap} {comps} {left} {from} {q} {t} {u} {X} {r} {assigning} {b} {A} {B} e h g o y =
-    subst⁻¹ (λ (x : Got). Reads s cap comps left from t (bind X (λ p e. chainP (turns s) s assigning [] e p)) x A B) e
-    (reads-then e h (chain-over g o y))
+    → Reads s cap comps left from t (bind X (λ p e. chainP (turns s) s assigning [] e p)) (Read q u) A B
+reads-over e h g o y = reads-then e h (chain-over g o y)
 
 -- what follows the operand that an expression begins with: no suffix past one space, then the chain
 pub rest-near : {s : Text} {cap comps left : ℕ} {q p : Place} {u : Tally} {b : Bool} {r : Got} {B Z : List ℕ} (assigning : Bool) → Begun s B cap q u → p ≡ nearOf s q

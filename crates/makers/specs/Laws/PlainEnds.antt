@@ -7,7 +7,7 @@ use mathlib.Core.Logic.{_⊎_, inl, inr, ⊎-elim}
 use Prim.Native.Nat.{ℕ, zero, suc, _+_, _≤_, _<_}
 use native.Mathlib.Omega.{arith}
 use lib.Dec.{eqb}
-use lib.ListN.{length, drop}
+use lib.ListN.{drop}
 use borrow.Author.Tests.{ne-eqb, eqb-true, eqb-false, le-ltb, not-true}
 use Rattle.characters.specs.declared.place.Place.{Place}
 use Rattle.characters.specs.declared.refusal.Refusal.the-variants.{PostfixIncrement, IncrementAsExpression}
@@ -24,9 +24,8 @@ use Rattle.grammar.specs.declared.leaves.Prefix.the-variants as prefix
 use Rattle.grammar.specs.declared.leaves.Postfix.{Postfix}
 use Rattle.grammar.specs.declared.leaves.Postfix.the-variants as post
 use Rattle.grammar.specs.declared.leaves.Suffix.the-variants as suffix
-use Rattle.grammar.specs.declared.leaves.Link.{Link}
 use Rattle.grammar.specs.Operators.{operators, firstOf, anyOf, isAssignment}
-use Rattle.grammar.specs.Leaves.{prefixBy, prefixPast, prefixOf, memberBy, instancePast, postfixBy, postfixPast, postfixOf, linkOf}
+use Rattle.grammar.specs.Leaves.{prefixBy, prefixPast, prefixOf, memberBy, instancePast, postfixBy, postfixPast, postfixOf}
 use Rattle.grammar.specs.LeafLaws.{opensSuffix, restsBy}
 use Rattle.grammar.specs.LinkLaws.{signOf, linkAt, link-sign}
 use Rattle.makers.specs.Plain.{nearOf, Rests, EndsBy, Over}
@@ -57,6 +56,10 @@ reached s p h = go (eqb (byteAt s (p .offset)) 32) refl
 
 pub stands-near : {s : Text} {p : Place} → Stands s p → Stands s (nearOf s p)
 stands-near {s} {p} h = reached s p h .stands
+
+-- the same of a place that code holds
+pub near-stands : {s : Text} {p q : Place} → Stands s p → q ≡ nearOf s p → Stands s q
+near-stands {s} h e = subst⁻¹ (Stands s) e (stands-near h)
 
 -- the blanks from there on are the same
 near-pass : (s : Text) (at p : Place) → passFrom s at between p ≡ passFrom s at between (nearOf s p)

@@ -6,18 +6,16 @@ use mathlib.Core.Logic.{_⊎_, inl, inr}
 use Prim.Native.Nat.{ℕ, _+_, _-_, _*_, _≤_, _<_}
 use native.Mathlib.Omega.{arith}
 use lib.Dec.{leb}
-use lib.IntN.{pos}
 use lib.ListN.{length}
-use borrow.Author.Tests.{leb-true, le-leb, lt-leb, ne-eqb, eq-eqb}
+use borrow.Author.Tests.{leb-true, le-leb, lt-leb, ne-eqb}
 use Rattle.characters.specs.declared.place.Place.{Place}
 use Rattle.characters.specs.declared.tokens.Must.the-variants.{Taken}
 use Rattle.characters.specs.Text.{Text, byteAt, ByteOf, onBy, Stands}
-use Rattle.characters.specs.PlaceLaws.{in-text, onBy-stands}
+use Rattle.characters.specs.PlaceLaws.{onBy-stands}
 use Rattle.characters.specs.Counts.{endOf}
 use Rattle.characters.specs.CountLaws.{end-inside, run-bytes}
 use Rattle.characters.specs.Names.{isDigit, isLetter, isNameByte, part, wordOf}
 use Rattle.characters.specs.NameLaws.{letter-is-name, name-byte-low, name-by-end, end-past-letter}
-use Rattle.literals.specs.declared.numbers.Numeral.{Numeral}
 use Rattle.literals.specs.Strings.{isQuote}
 use Rattle.literals.specs.Plain.{intEnd, IntOf, stringEnd}
 use Rattle.literals.specs.PlainLaws.{IsInt, is-int, IsString, is-string, digit-bounds, quote-is, plain-number, plain-string, string-inside}
@@ -26,11 +24,10 @@ use Rattle.records.specs.declared.kind.Kind.the-variants as kinds
 use Rattle.records.specs.declared.row.Row.{Row}
 use Rattle.records.specs.Words.{spanWord, lowOf, highOf}
 use Rattle.records.specs.Rows.{Lays, Lent, recordOf, layout}
-use Rattle.grammar.specs.declared.leaves.Atom.{Atom}
 use Rattle.grammar.specs.declared.leaves.Atom.the-variants.{Leaf}
 use Rattle.grammar.specs.Leaves.{rowOf, leafRow, numberAtom, spanAtom, wordAtom, nameAtom, atomOf}
 use Rattle.grammar.specs.AtomLaws.{atom-digit, atom-letter, atom-quote, leaf-kind}
-use Rattle.makers.specs.Plain.{PlainMade, Plain}
+use Rattle.makers.specs.Plain.{Plain}
 use Rattle.makers.specs.Laws.PlainEnds.{no-sign}
 
 -- ---- room

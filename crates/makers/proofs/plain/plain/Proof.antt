@@ -1,5 +1,5 @@
 -- `plain` goes by the first byte. Assumes nothing.
-use mathlib.Core.Path.{refl, ap}
+use mathlib.Core.Path.{ap}
 use Rattle.characters.specs.Names.{isLetter}
 use Rattle.literals.specs.Strings.{isQuote}
 use Rattle.makers.specs.Laws.PlainMade.{plain-none, next-lent, plain-room, told-by, capital, small}

@@ -10,3 +10,5 @@ pub mod Plain
 pub mod Names
 pub mod NamesWalk
 pub mod NamesRead
+pub mod NamesLast
+pub mod NamesUnit

@@ -10,7 +10,7 @@ use Rattle.characters.specs.declared.place.Span.{Span}
 use Rattle.characters.specs.declared.refusal.Refusal.{Refusal}
 use Rattle.characters.specs.declared.refusal.Refusal.the-variants.{Duplicate}
 use Rattle.characters.specs.Text.{Text}
-use Rattle.characters.specs.Names.{freeName, part, same}
+use Rattle.characters.specs.Names.{name, freeName, part, same}
 use Rattle.literals.specs.Strings.{decoded, keyOf}
 use Rattle.reading.specs.declared.tally.Tally.{Tally}
 use Rattle.reading.specs.declared.answer.Got.{Got}
@@ -27,7 +27,8 @@ use Rattle.records.specs.Nodes.{Stored, kindAt, heldAt, beforeAt, valueAt, node
 use Rattle.grammar.specs.Leaves.{keyAt}
 use Rattle.grammar.specs.Expressions.{Routine, Rule, pairP, withKey}
 use Rattle.grammar.specs.Functions.{paramP, withName}
-use Rattle.grammar.specs.Units.{isFunction, declaredName}
+use Rattle.grammar.specs.Classes.{methodP}
+use Rattle.grammar.specs.Units.{Declared, isFunction, declaredName}
 use Rattle.grammar.specs.Grammar.{grammar}
 use Rattle.grammar.specs.Reads.{EndsBy}
 use Rattle.makers.specs.declared.names.Naming.{Naming}
@@ -175,3 +176,15 @@ pub record Param (s : Text) (cap comps last : ℕ) (at : Place) (t : Tally) (r :
   pub ends : EndsBy s at r
   pub listed : {p : Place} {u : Tally} → r ≡ Read p u
       → Listed Parameters later u (u .records) (withName (freeName s at) (namesOf Parameters before last))
+
+-- of a method
+pub record Method (s : Text) (cap comps left last : ℕ) (at : Place) (t : Tally) (r : Got) (before later : List ℕ) : Type 0 where
+  pub does : Does layout (grammar s) cap comps left t (methodP s (namesOf Methods before last) last at) (outOf later r) before later
+  pub ends : EndsBy s at r
+  pub listed : {p : Place} {u : Tally} → r ≡ Read p u
+      → Listed Methods later u (u .records) (withName (name s at) (namesOf Methods before last))
+
+-- What a reader of the unit holds: the functions and the classes that its items from `last` back declare.
+pub record Declares (pool : List ℕ) (t : Tally) (last : ℕ) (d : Declared) : Type 0 where
+  pub funs : Listed Functions pool t last (d .funs)
+  pub classes : Listed Classes pool t last (d .classes)

@@ -364,7 +364,7 @@ listed-does {B = B} d e h =
     }
 
 -- A record that was made had room.
-made-room : {cap : ℕ} {t : Tally} {p : Place} {w : Row} {r : Got} {A B : List ℕ} {q : Place} {u : Tally} → MakesRow cap t p w r A B → r ≡ Read q u
+pub made-room : {cap : ℕ} {t : Tally} {p : Place} {w : Row} {r : Got} {A B : List ℕ} {q : Place} {u : Tally} → MakesRow cap t p w r A B → r ≡ Read q u
     → t .records < cap
 made-room {cap} {t} m e = go (ltb (t .records) cap) refl
   where

@@ -1,5 +1,5 @@
--- THE READERS OF LISTS OF NAMES: each return of the reader of a dictionary's pair and of a parameter, and the loop over parameters, of
--- which what is left answers for the whole. Assumes nothing.
+-- THE READERS OF LISTS OF NAMES: each return of the reader of a dictionary's pair and of a parameter, and of the loops over them, of which
+-- what is left answers for the whole. Assumes nothing.
 use mathlib.Core.Path.{_≡_, refl, sym, ap, subst, subst⁻¹, _∙_}
 use mathlib.Core.Bool.{Bool, true, false}
 use mathlib.Core.List.{List, [], _∷_}
@@ -35,7 +35,7 @@ use Rattle.records.specs.Laws.Nodes.{row-as, read-of, refused-of}
 use Rattle.grammar.specs.Leaves.{keyAt, closeOf, followOf}
 use Rattle.grammar.specs.LeafLaws.{KeyOn, key-on, CloseOn, close-on}
 use Rattle.grammar.specs.Leads.{FollowOn, follow-leads}
-use Rattle.grammar.specs.Expressions.{turns, keySpan, pairRow, valueP, pairP, withKey}
+use Rattle.grammar.specs.Expressions.{turns, keySpan, pairRow, valueP, pairP, withKey, dictRow, dictP}
 use Rattle.grammar.specs.Functions.{nameSpan, nameWord, withName, paramRow, paramP, paramsP, parametersP}
 use Rattle.grammar.specs.Grammar.{grammar}
 use Rattle.grammar.specs.Reads.{Ready, EndsBy, Reads}
@@ -46,8 +46,8 @@ use Rattle.makers.specs.declared.names.Naming.{Naming}
 use Rattle.makers.specs.declared.names.Naming.the-variants.{Keys, Parameters}
 use Rattle.makers.specs.Contracts.{itemsOf, ItemsBy, ListsAlone}
 use Rattle.makers.specs.Names.{namesOf, Listed, Unique, Well, WellListed, Paired, Param}
-use Rattle.makers.specs.Laws.Turns.{Turning, turn-on, turn-fuel, same-turns}
-use Rattle.makers.specs.Laws.Names.{read-or-refused, key-then, key-stops, name-then, name-stops, ready-kept, well-own, listed-kept, listed-does, listed-made}
+use Rattle.makers.specs.Laws.Turns.{Turning, turn-first, turn-on, turn-fuel, same-turns}
+use Rattle.makers.specs.Laws.Names.{read-or-refused, key-then, key-stops, name-then, name-stops, ready-kept, listed-none, listed-well, well-own, listed-kept, listed-does, listed-made}
 
 -- ---- what a key or a name leads over
 
@@ -80,11 +80,11 @@ taken-packs g a =
     let o = ap (λ (x : Place). x .offset) (a .0) in
     (omega arith, omega arith)
 
-span-as : {nm : Naming} {pool : List ℕ} {t : Tally} {last from to : ℕ} {ks : List Span} → (from ≤ 65535) × (to ≤ 65535)
+pub span-as : {nm : Naming} {pool : List ℕ} {t : Tally} {last from to : ℕ} {ks : List Span} → (from ≤ 65535) × (to ≤ 65535)
     → Listed nm pool t last (spanOf (spanWord from to) ∷ ks) → Listed nm pool t last (record { from = from; to = to } ∷ ks)
 span-as {nm} {pool} {t} {last} {from} {to} {ks} p h = subst (λ (k : Span). Listed nm pool t last (k ∷ ks)) (span-back from to (p .0) (p .1)) h
 
-ends-off : (s : Text) (from : Place) {r : Got} {k : Refusal} {p : Place} {u : Tally} → r ≡ Refused k p u → EndsBy s from r
+pub ends-off : (s : Text) (from : Place) {r : Got} {k : Refusal} {p : Place} {u : Tally} → r ≡ Refused k p u → EndsBy s from r
 ends-off s from e = subst⁻¹ (EndsBy s from) e tt
 
 -- ---- a dictionary's pair
@@ -164,6 +164,118 @@ pub pair-listed : {s : Text} {cap comps left last : ℕ} {from at : Place} {t u 
 pair-listed {s} {at = at} {u = u} {B = B} h d e =
     subst (λ (x : List Span). Listed Keys B u (u .records) (withKey (keyAt s at) x)) (h .names) (d .listed e)
 
+-- ---- where the closing sign and the comma lead
+
+close-found : {s : Text} {p h n : Place} {l : Look} (b : ℕ) → Stands s p → l ≡ closeOf s p b → l ≡ Found h n → Reached s p n
+close-found {s} {p} b v e f = advanced-reached (subst (CloseOn s p) (sym e ∙ f) (close-on s p b v))
+
+close-missing : {s : Text} {p h : Place} {l : Look} (b : ℕ) → Stands s p → l ≡ closeOf s p b → l ≡ Missing h → Reached s p h
+close-missing {s} {p} b v e f = subst (CloseOn s p) (sym e ∙ f) (close-on s p b v) .0
+
+follow-found : {s : Text} {p h n : Place} {l : Look} (b : ℕ) → Stands s p → l ≡ followOf s p b → l ≡ Found h n → Advanced s p n
+follow-found {s} {p} b v e f = subst (FollowOn s p) (sym e ∙ f) (follow-leads s p b v)
+
+follow-missing : {s : Text} {p n : Place} {l : Look} (b : ℕ) → Stands s p → l ≡ followOf s p b → l ≡ Missing n → Advanced s p n
+follow-missing {s} {p} b v e f = subst (FollowOn s p) (sym e ∙ f) (follow-leads s p b v)
+
+-- ---- the loop over a dictionary's pairs: what is left of it answers for the whole
+
+pub record Dicting (s pool₀ : List ℕ) (cap comps left : ℕ) (from at : Place) (t : Tally) (pool : List ℕ) (here : Place) (tally : Tally) (last : ℕ) : Type 0 where
+  pub same : length pool ≡ length pool₀
+  pub ready : Ready s pool cap here tally
+  pub turn : Turning s at here
+  pub keys : List Span
+  pub listed : Listed Keys pool tally last keys
+  pub rest : (r : Out) (B : List ℕ) → Does layout (grammar s) cap comps left tally (dictP (suc (turn .fuel)) s from keys last here) r pool B
+      → Does layout (grammar s) cap comps left t (dictP (turns s) s from [] 0 at) r pool₀ B
+
+pub dict-first : {s pool : List ℕ} {cap comps left : ℕ} {from at : Place} {t : Tally} → Ready s pool cap at t → Dicting s pool cap comps left from at t pool at t 0
+dict-first g = record { same = refl; ready = g; turn = turn-first (g .stands); keys = []; listed = listed-none; rest = λ r B d. d }
+
+module _ {s pool₀ : List ℕ} {cap comps left : ℕ} {from at : Place} {t : Tally} {pool : List ℕ} {here : Place} {tally : Tally} {last : ℕ} (v : Dicting s pool₀ cap comps left from at t pool here tally last)
+    {l : Look} (e : l ≡ closeOf s here 125) where
+  pub dict-halts : {k : Refusal} {q : Place} → l ≡ Halted k q
+      → Reads s cap comps left at t (dictP (turns s) s from [] 0 at) (Refused k q tally) pool₀ pool
+  unfolding dictP
+  dict-halts f = record { does = v .rest _ _ (halted e f); ends = tt }
+
+  -- the closing sign
+  module _ {h n : Place} (f : l ≡ Found h n) where
+    pub dict-end : Ready s pool cap n tally
+    dict-end = ready-at (v .ready) (close-found _ (v .ready .stands) e f .stands)
+
+    pub dict-ends : {w : Row} {r : Got} {after : List ℕ} → w ≡ dictRow from last → MakesRow cap tally n w r pool after
+        → Reads s cap comps left at t (dictP (turns s) s from [] 0 at) r pool₀ after
+    unfolding dictP
+    dict-ends i m =
+        let a = close-found _ (v .ready .stands) e f .further in
+        let b = v .turn .place .further in
+        reads-on (λ o. v .rest _ _ (found e f o)) (omega arith) (reads-make dict-end (row-as i m))
+
+  -- a pair
+  module _ {h : Place} (f : l ≡ Missing h) where
+    pub dict-here : Ready s pool cap h tally × WellListed pool tally last
+    dict-here = (ready-at (v .ready) (close-missing _ (v .ready .stands) e f .stands), listed-well (v .listed))
+
+    module _ {o : Got} {mid : List ℕ} (d : Paired s cap comps left from last h tally o pool mid) where
+      pair-here : Reads s cap comps left h tally (pairP s from (v .keys) last h) o pool mid
+      pair-here = pair-by (v .listed) d
+
+      pub dict-refused : {k : Refusal} {p : Place} {u : Tally} → o ≡ Refused k p u
+          → Reads s cap comps left at t (dictP (turns s) s from [] 0 at) o pool₀ mid
+      unfolding dictP
+      dict-refused g =
+          record { does = v .rest _ _ (missing e f (told (sym (ap (outOf mid) g)) (stops (refused-of g (pair-here .does))))); ends = ends-off s at g }
+
+      module _ {q : Place} {u : Tally} (g : o ≡ Read q u) where
+        pub dict-next : Ready s mid cap q u
+        dict-next = ready-then (dict-here .0) g pair-here
+
+        dict-past : Reached s here q
+        dict-past = reached-on (close-missing _ (v .ready .stands) e f) (read-ends g pair-here .reached)
+
+        module _ {m : Look} (a : m ≡ followOf s q 125) where
+          pub dict-follow-halts : {k : Refusal} {p : Place} → m ≡ Halted k p
+              → Reads s cap comps left at t (dictP (turns s) s from [] 0 at) (Refused k p u) pool₀ mid
+          unfolding dictP
+          dict-follow-halts b = record { does = v .rest _ _ (missing e f (then (read-of g (pair-here .does)) (halted a b))); ends = tt }
+
+          module _ {p n : Place} (b : m ≡ Found p n) where
+            pub dict-follow-end : Ready s mid cap n u
+            dict-follow-end = ready-at dict-next (follow-found _ (dict-next .stands) a b .stands)
+
+            pub dict-follow-ends : {w : Row} {r : Got} {after : List ℕ} → w ≡ dictRow from (u .records) → MakesRow cap u n w r mid after
+                → Reads s cap comps left at t (dictP (turns s) s from [] 0 at) r pool₀ after
+            unfolding dictP
+            dict-follow-ends i k =
+                let x = follow-found _ (dict-next .stands) a b .further in
+                let y = dict-past .further in
+                let z = v .turn .place .further in
+                reads-on (λ o. v .rest _ _ (missing e f (then (read-of g (pair-here .does)) (found a b o)))) (omega arith)
+                (reads-make dict-follow-end (row-as i k))
+
+          -- a comma: the list goes on
+          module _ {n : Place} (b : m ≡ Missing n) where
+            pub dict-further : Advanced s here n
+            dict-further = advanced-on dict-past (follow-missing _ (dict-next .stands) a b)
+
+            pub dict-on : length mid ≡ length pool → Dicting s pool₀ cap comps left from at t mid n u (u .records)
+            unfolding dictP
+            dict-on z =
+                let w = dict-further in
+                record {
+                  same = z ∙ v .same;
+                  ready = ready-at dict-next (w .stands);
+                  turn = turn-on (v .turn) w;
+                  keys = withKey (keyAt s h) (v .keys);
+                  listed = pair-listed (v .listed) d g;
+                  rest = λ r B x.
+                      v .rest r B
+                      (missing e f
+                      (then (read-of g (pair-here .does))
+                      (missing a b (same-turns (λ f. dictP f s from (withKey (keyAt s h) (v .keys)) (u .records) n) (turn-fuel (v .turn) w) x))));
+                }
+
 -- ---- a parameter
 
 module _ {s : Text} {pool : List ℕ} {cap comps last : ℕ} {at : Place} {t : Tally} (g : Ready s pool cap at t) (w : Well Parameters pool t last) {l : Must} (e : l ≡ freeName s at) where
@@ -227,21 +339,7 @@ param-listed : {s : Text} {cap comps last : ℕ} {at : Place} {t u : Tally} {r :
 param-listed {s} {at = at} {u = u} {B = B} h d e =
     subst (λ (x : List Span). Listed Parameters B u (u .records) (withName (freeName s at) x)) (h .names) (d .listed e)
 
--- ---- where the closing sign and the comma lead
-
-close-found : {s : Text} {p h n : Place} {l : Look} (b : ℕ) → Stands s p → l ≡ closeOf s p b → l ≡ Found h n → Reached s p n
-close-found {s} {p} b v e f = advanced-reached (subst (CloseOn s p) (sym e ∙ f) (close-on s p b v))
-
-close-missing : {s : Text} {p h : Place} {l : Look} (b : ℕ) → Stands s p → l ≡ closeOf s p b → l ≡ Missing h → Reached s p h
-close-missing {s} {p} b v e f = subst (CloseOn s p) (sym e ∙ f) (close-on s p b v) .0
-
-follow-found : {s : Text} {p h n : Place} {l : Look} (b : ℕ) → Stands s p → l ≡ followOf s p b → l ≡ Found h n → Advanced s p n
-follow-found {s} {p} b v e f = subst (FollowOn s p) (sym e ∙ f) (follow-leads s p b v)
-
-follow-missing : {s : Text} {p n : Place} {l : Look} (b : ℕ) → Stands s p → l ≡ followOf s p b → l ≡ Missing n → Advanced s p n
-follow-missing {s} {p} b v e f = subst (FollowOn s p) (sym e ∙ f) (follow-leads s p b v)
-
--- ---- the loop
+-- ---- the loop over parameters
 
 pub record Gathering (s pool₀ : List ℕ) (cap comps end : ℕ) (at : Place) (t : Tally) (pool : List ℕ) (here : Place) (tally : Tally) (last count : ℕ) : Type 0 where
   pub same : length pool ≡ length pool₀

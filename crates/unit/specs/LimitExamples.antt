@@ -388,8 +388,8 @@ duplicates :
 unfolding entered recordsOf comparisonsOf
 duplicates = (refl, refl, refl, refl, refl, refl)
 
--- 25 before the pending binary, 28 after `else`; plus adds no record, each minus one; an index is a target; `nil` is implied; 10 after blanks; past the end
--- the column moves
+-- 25 before the pending binary, 28 after `else`; plus adds no record, each minus one; an index is a target; `nil` is implied; 10 after
+-- blanks; past the end the column moves
 refusals :
     Answers (ascii "f(a + b = 1);") (says 25 1 9 3 0)
     × Answers (ascii "if (a) {} else let b = 1;") (says 28 1 16 4 0)

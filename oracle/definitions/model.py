@@ -181,6 +181,9 @@ class Clause:
             self.take(")")
             return inner
         found = self.home.find(value)
+        # A constructor that the file doesn't import would be a variable, and fit everything.
+        if found is None and value in CONSTRUCTORS:
+            self.fail()
         return ("constructor", found[1], []) if found and found[0] == "constructor" else ("variable", value)
 
     def pattern(self):

@@ -3,8 +3,6 @@ use crate::node::Node;
 use crate::tally::Tally;
 use characters::place::Place;
 use characters::refusal::Refusal;
-ghost use mathlib.Core.Path.{_≡_};
-ghost use Rattle.reading.specs.Answers.{answerFrom};
 
 // Read up to `at`, with a node; or refused at `at`. Either with the tally reached.
 pub enum Out {
@@ -41,31 +39,4 @@ pub struct Answer {
     pub column: u32,
     pub records: u32,
     pub comparisons: u32,
-}
-
-impl Out {
-    // What the caller is told.
-    pub fn answer(self) -> Answer
-        ensures { λ r. ⌜ r ≡ answerFrom self ⌝ }
-    {
-        match self {
-            Out::Read { at, node: _, tally } => Answer {
-                number: 0,
-                line: at.line,
-                column: at.column,
-                records: tally.records,
-                comparisons: tally.comparisons,
-            },
-            Out::Refused { refusal, at, tally } => {
-                let number = refusal.number();
-                Answer {
-                    number,
-                    line: at.line,
-                    column: at.column,
-                    records: tally.records,
-                    comparisons: tally.comparisons,
-                }
-            }
-        }
-    }
 }

@@ -1,7 +1,7 @@
 // Tallies: what is counted on the way.
 ghost use mathlib.Core.Path.{_≡_};
 ghost use Prim.Native.Nat.{_^_, _-_, _<_};
-ghost use Rattle.reading.specs.Events.{start, withId};
+ghost use Rattle.reading.specs.Events.{start, withId, withRecord};
 
 // Records made, comparisons made, and ids given out.
 pub struct Tally {
@@ -19,6 +19,19 @@ impl Tally {
             records: 0,
             comparisons: 0,
             ids: 0,
+        }
+    }
+
+    // After one more record was made.
+    pub fn recorded(self) -> Self
+        requires { ⌜ self .records < 2 ^ 32 - 1 ⌝ }
+        ensures { λ r. ⌜ r ≡ withRecord self ⌝ }
+    {
+        let records = self.records + 1;
+        Self {
+            records,
+            comparisons: self.comparisons,
+            ids: self.ids,
         }
     }
 

@@ -14,31 +14,82 @@ use Rattle.characters.specs.Counts.{endOf}
 use Rattle.characters.specs.CountLaws.{In, run-on, run-ends, run-out, run-over, run-bytes}
 use Rattle.characters.specs.Names.{isDigit, isSmall, part}
 use Rattle.literals.specs.Strings.{isQuote}
-use Rattle.literals.specs.Plain.{goesOn, isInt, intEnd, Few, valueFrom, intValue, IntOf, isItself, isPlain, contentEnd, stringEnd}
+use Rattle.literals.specs.Plain.{goesOn, isInt, intEnd, fractionEnd, floatEnd, Few, valueFrom, intValue, IntOf, isItself, isPlain, contentEnd, stringEnd}
 use Rattle.literals.specs.PlainLaws.{digit-bounds, int-small, quote-is}
 
 -- ---- where an integer ends
 
-module _ (s : Text) (o : ℕ) where
-  pub int-none : endOf isDigit s o ≤ o → 0 ≡ intEnd s o
-  unfolding intEnd
-  int-none h = rw (le-ltb o (endOf isDigit s o) h, intEnd) refl
+-- the byte behind digits, by what a test of it answered
+pub behind : {s : Text} {x b : ℕ} {r t : Bool} → ByteOf s x b → r ≡ goesOn b → r ≡ t → goesOn (byteAt s x) ≡ t
+behind e f g = ap goesOn (sym (e .is)) ∙ sym f ∙ g
 
-  pub int-long : o < endOf isDigit s o → o + 18 < endOf isDigit s o → 0 ≡ intEnd s o
-  unfolding intEnd
-  int-long h k = rw (lt-ltb o (endOf isDigit s o) h, lt-leb (endOf isDigit s o) (o + 18) k, intEnd) refl
+module _ (s : Text) (o : ℕ) {e : ℕ} (z : e ≡ endOf isDigit s o) where
+  last : {t : Bool} → goesOn (byteAt s e) ≡ t → goesOn (byteAt s (endOf isDigit s o)) ≡ t
+  last a = ap (λ (k : ℕ). goesOn (byteAt s k)) (sym z) ∙ a
 
-  pub int-more : o < endOf isDigit s o → endOf isDigit s o ≤ o + 18 → goesOn (byteAt s (endOf isDigit s o)) ≡ true → 0 ≡ intEnd s o
+  pub int-none : e ≤ o → 0 ≡ intEnd s o
   unfolding intEnd
-  int-more h k e = rw (lt-ltb o (endOf isDigit s o) h, le-leb (endOf isDigit s o) (o + 18) k, e, intEnd) refl
+  int-none h = rw (le-ltb o (endOf isDigit s o) (omega arith), intEnd) refl
 
-  pub int-ends : o < endOf isDigit s o → endOf isDigit s o ≤ o + 18 → goesOn (byteAt s (endOf isDigit s o)) ≡ false → endOf isDigit s o ≡ intEnd s o
+  pub int-long : o < e → o + 18 < e → 0 ≡ intEnd s o
   unfolding intEnd
-  int-ends h k e = rw (lt-ltb o (endOf isDigit s o) h, le-leb (endOf isDigit s o) (o + 18) k, e, intEnd) refl
+  int-long h k = rw (lt-ltb o (endOf isDigit s o) (omega arith), lt-leb (endOf isDigit s o) (o + 18) (omega arith), intEnd) refl
 
--- the byte behind the digits, by what a test of it answered
-pub behind : (s : Text) (o : ℕ) {x b : ℕ} {r t : Bool} → x ≡ endOf isDigit s o → ByteOf s x b → r ≡ goesOn b → r ≡ t → goesOn (byteAt s (endOf isDigit s o)) ≡ t
-behind s o z e f g = ap (λ (k : ℕ). goesOn (byteAt s k)) (sym z) ∙ ap goesOn (sym (e .is)) ∙ sym f ∙ g
+  pub int-more : o < e → e ≤ o + 18 → goesOn (byteAt s e) ≡ true → 0 ≡ intEnd s o
+  unfolding intEnd
+  int-more h k a = rw (lt-ltb o (endOf isDigit s o) (omega arith), le-leb (endOf isDigit s o) (o + 18) (omega arith), last a, intEnd) refl
+
+  pub int-ends : o < e → e ≤ o + 18 → goesOn (byteAt s e) ≡ false → e ≡ intEnd s o
+  unfolding intEnd
+  int-ends h k a = z ∙ rw (lt-ltb o (endOf isDigit s o) (omega arith), le-leb (endOf isDigit s o) (o + 18) (omega arith), last a, intEnd) refl
+
+-- ---- where a fraction ends
+
+module _ (s : Text) (o : ℕ) {d : ℕ} (z : d ≡ endOf isDigit s o) where
+  pub float-none : d ≤ o → 0 ≡ floatEnd s o
+  unfolding floatEnd
+  float-none h = rw (le-ltb o (endOf isDigit s o) (omega arith), floatEnd) refl
+
+  module _ {b : ℕ} (h : o < d) (k : ByteOf s d b) where
+    behind-digits : b ≡ byteAt s (endOf isDigit s o)
+    behind-digits = k .is ∙ ap (byteAt s) z
+
+    pub float-undotted : (b ≡ 46 → ⊥) → 0 ≡ floatEnd s o
+    unfolding floatEnd
+    float-undotted n =
+        rw (lt-ltb o (endOf isDigit s o) (omega arith), ne-eqb (byteAt s (endOf isDigit s o)) 46 (λ y. n (behind-digits ∙ y)), floatEnd) refl
+
+    module _ (f : b ≡ 46) where
+      pub dot-inside : d < length s
+      dot-inside = let y : byteAt s d ≡ 46 = sym (k .is) ∙ f in in-text s d (omega arith)
+
+      dotted : eqb (byteAt s (endOf isDigit s o)) 46 ≡ true
+      dotted = eq-eqb (byteAt s (endOf isDigit s o)) 46 (sym behind-digits ∙ f)
+
+      module _ {e : ℕ} (w : e ≡ endOf isDigit s (d + 1)) where
+        all : e ≡ fractionEnd s o
+        all = w ∙ ap (λ (x : ℕ). endOf isDigit s (x + 1)) z
+
+        pub float-bare : e ≤ d + 1 → 0 ≡ floatEnd s o
+        unfolding floatEnd
+        float-bare m =
+            let y = all in
+            rw (lt-ltb o (endOf isDigit s o) (omega arith), dotted, le-ltb (endOf isDigit s o + 1) (fractionEnd s o) (omega arith), floatEnd) refl
+
+        module _ (m : d + 1 < e) where
+          some : ltb (endOf isDigit s o + 1) (fractionEnd s o) ≡ true
+          some = let y = all in lt-ltb (endOf isDigit s o + 1) (fractionEnd s o) (omega arith)
+
+          final : {t : Bool} → goesOn (byteAt s e) ≡ t → goesOn (byteAt s (fractionEnd s o)) ≡ t
+          final a = ap (λ (x : ℕ). goesOn (byteAt s x)) (sym all) ∙ a
+
+          pub float-more : goesOn (byteAt s e) ≡ true → 0 ≡ floatEnd s o
+          unfolding floatEnd
+          float-more a = rw (lt-ltb o (endOf isDigit s o) (omega arith), dotted, some, final a, floatEnd) refl
+
+          pub float-ends : goesOn (byteAt s e) ≡ false → e ≡ floatEnd s o
+          unfolding floatEnd
+          float-ends a = all ∙ rw (lt-ltb o (endOf isDigit s o) (omega arith), dotted, some, final a, floatEnd) refl
 
 -- ---- its value
 

@@ -23,6 +23,22 @@ isInt s o e = ltb o e && leb e (o + 18) && not (goesOn (byteAt s e))
 unfoldable pub intEnd : Text → ℕ → ℕ
 intEnd s o = elim (isInt s o (endOf isDigit s o)) [ true ↦ endOf isDigit s o | false ↦ 0 ]
 
+-- ---- fractions
+
+-- the digits from o to a dot at d and from behind it to e, with nothing behind them that they could go on with
+abbrev pub isFloat : Text → ℕ → ℕ → ℕ → Bool
+isFloat s o d e = ltb o d && eqb (byteAt s d) 46 && ltb (d + 1) e && not (goesOn (byteAt s e))
+
+-- where the digits end that stand one byte behind the digits at an offset
+abbrev pub fractionEnd : Text → ℕ → ℕ
+fractionEnd s o = endOf isDigit s (endOf isDigit s o + 1)
+
+-- where the plain fraction at an offset ends; 0 where there is none
+unfoldable pub floatEnd : Text → ℕ → ℕ
+floatEnd s o = elim (isFloat s o (endOf isDigit s o) (fractionEnd s o)) [ true ↦ fractionEnd s o | false ↦ 0 ]
+
+-- ---- the value of an integer
+
 -- the value of decimal digits behind others of the value v
 unfoldable pub valueFrom : ℕ → Text → ℕ
 valueFrom v [] = v

@@ -4,7 +4,7 @@ use mathlib.Core.List.{List, [], _∷_, map}
 use Prim.Native.Nat.{ℕ}
 use Rattle.characters.specs.Text.{Text, ascii}
 use Rattle.characters.specs.Counts.{countOf}
-use Rattle.literals.specs.Plain.{intEnd, valueFrom, intValue, stringEnd}
+use Rattle.literals.specs.Plain.{intEnd, floatEnd, valueFrom, intValue, stringEnd}
 
 -- what is answered is what is told
 abbrev Right : (Text → ℕ) → List (Text × ℕ) → Type 0
@@ -26,6 +26,27 @@ ints : Right (λ t. intEnd t 0)
     ∷ [])
 unfolding intEnd countOf
 ints = refl
+
+-- a dot wants digits on both sides; a name, a separator, an exponent or a second dot behind them is not plain
+floats : Right (λ t. floatEnd t 0)
+    ((ascii "1.5", 3)
+    ∷ (ascii "12.50;", 5)
+    ∷ (ascii "0.0 + 1", 3)
+    ∷ (ascii "12", 0)
+    ∷ (ascii "1.", 0)
+    ∷ (ascii "1.a", 0)
+    ∷ (ascii ".5", 0)
+    ∷ (ascii "1_0.5", 0)
+    ∷ (ascii "1._5", 0)
+    ∷ (ascii "1.5_0", 0)
+    ∷ (ascii "1.5e3", 0)
+    ∷ (ascii "1.5E3", 0)
+    ∷ (ascii "1.5x", 0)
+    ∷ (ascii "1.5.a", 0)
+    ∷ (ascii "", 0)
+    ∷ [])
+unfolding floatEnd countOf
+floats = refl
 
 values : Right (λ t. intValue t 0 3) ((ascii "007", 7) ∷ (ascii "123;", 123) ∷ (ascii "999", 999) ∷ [])
 unfolding valueFrom

@@ -20,11 +20,27 @@ use Rattle.characters.specs.CountLaws.{count-yes, count-no, count-none, end-ins
 use Rattle.characters.specs.Names.{isDigit, isSmall, isNameByte, part}
 use Rattle.literals.specs.declared.numbers.Run.the-variants.{Digits}
 use Rattle.literals.specs.declared.numbers.Numeral.{Numeral}
-use Rattle.literals.specs.declared.numbers.Numeral.the-variants.{Int}
-use Rattle.literals.specs.Numbers.{digitOf, isDigitIn, run, digits, most, whole, exponentOr, pastDigits, decimalOf, decimal, based, number}
+use Rattle.literals.specs.declared.numbers.Numeral.the-variants.{Int, Float}
+use Rattle.literals.specs.Numbers.{
+  digitOf,
+  isDigitIn,
+  run,
+  digits,
+  most,
+  whole,
+  exponentOr,
+  pastFraction,
+  fraction,
+  dotted,
+  pastDigits,
+  decimalOf,
+  decimal,
+  based,
+  number,
+}
 use Rattle.literals.specs.NumberLaws.{choice, run-digit, run-end}
 use Rattle.literals.specs.Strings.{isQuote, scan, stringBy, string}
-use Rattle.literals.specs.Plain.{goesOn, isInt, intEnd, Few, valueFrom, intValue, isItself, isPlain, contentEnd, stringEnd}
+use Rattle.literals.specs.Plain.{goesOn, isInt, intEnd, isFloat, fractionEnd, floatEnd, Few, valueFrom, intValue, isItself, isPlain, contentEnd, stringEnd}
 
 -- ---- digits
 
@@ -95,12 +111,87 @@ int-small {s} {from} {to} w =
     let c : 1 * 10 ^ (to - from) ≡ 10 ^ (to - from) = one-mul (10 ^ (to - from)) in
     omega arith
 
+-- ---- digits at a place
+
+-- one digit at least from a place to an offset, where they end
+module _ (s : Text) (p : Place) (e : ℕ) (ends : e ≡ endOf isDigit s (p .offset)) (some : p .offset < e) where
+  abbrev size : ℕ
+  size = countOf isDigit (drop (p .offset) s)
+
+  count : e - p .offset ≡ size
+  count = omega arith
+
+  follows : byteAt (drop (p .offset) s) size ≡ byteAt s e
+  follows = getD-drop (p .offset) s size 256 ∙ ap (byteAt s) (sym ends)
+
+  first : isDigit (byteAt s (p .offset)) ≡ true
+  first = run-bytes isDigit s (p .offset) (p .offset) (omega arith) (omega arith) .1
+
+  first-in : isDigitIn 10 (byteAt s (p .offset)) ≡ true
+  first-in =
+      let i = digit-bounds (byteAt s (p .offset)) first .1 in
+      let d = digit-value (byteAt s (p .offset)) first in
+      lt-ltb (digitOf (byteAt s (p .offset))) 10 (omega arith)
+
+  -- with no `_` behind them: their value, and past them
+  digits-plain : (byteAt s e ≡ 95 → ⊥) → digits false ExpectedDigit 10 s p ≡ Digits (intValue s (p .offset) e) (onBy (e - p .offset) p)
+  unfolding digits
+  digits-plain n =
+      rw (first-in, digits)
+      (run-plain (drop (p .offset) s) 0 p (λ z. n (sym follows ∙ z))
+      ∙ ap (λ (k : ℕ). Digits (valueFrom 0 (take k (drop (p .offset) s))) (onBy k p)) (sym count))
+
+  -- what is no digit and does not follow them does not stand behind the first
+  no-base : (k : ℕ) → isDigit k ≡ false → (byteAt s e ≡ k → ⊥) → byteAt s (p .offset + 1) ≡ k → ⊥
+  no-base k d n f = go (ltb (p .offset + 1) e) refl
+    where
+      go : (t : Bool) → ltb (p .offset + 1) e ≡ t → ⊥
+      go true t =
+          let l : p .offset + 1 < e = ltb-true (p .offset + 1) e t in
+          let b : isDigit (byteAt s (p .offset + 1)) ≡ true = run-bytes isDigit s (p .offset) (p .offset + 1) (omega arith) (omega arith) .1 in
+          let y : _≡_ {A = Bool} true false = sym b ∙ ap isDigit f ∙ d in
+          let w : _≡_ {A = ℕ} 0 1 = cc in
+          omega arith
+      go false t =
+          let l = ltb-false (p .offset + 1) e t in
+          let y : p .offset + 1 ≡ e = omega arith in
+          n (ap (byteAt s) (sym y) ∙ f)
+
+  -- with no `x` and no `b` behind them they begin a decimal number
+  decimal-number : (byteAt s e ≡ 120 → ⊥) → (byteAt s e ≡ 98 → ⊥) → number s p ≡ decimal s p
+  unfolding number
+  decimal-number m n = go (eqb (byteAt s (p .offset)) 48) (ne-eqb (byteAt s (p .offset + 1)) 120 (no-base 120 refl m)) (ne-eqb (byteAt s (p .offset + 1)) 98 (no-base 98 refl n))
+    where
+      go : (t : Bool) → eqb (byteAt s (p .offset + 1)) 120 ≡ false → eqb (byteAt s (p .offset + 1)) 98 ≡ false
+          → elim t as (λ u. Numeral) [ true ↦ elim (eqb (byteAt s (p .offset + 1)) 120) as (λ u. Numeral) [ true ↦ based 16 s (onBy 2 p) | false ↦ elim (eqb (byteAt s (p .offset + 1)) 98) as (λ u. Numeral) [ true ↦ based 2 s (onBy 2 p) | false ↦ decimal s p ] ] | false ↦ decimal s p ]
+          ≡ decimal s p
+      go true x y = rw (x, y) refl
+      go false x y = refl
+
+-- behind what stands alone is no byte of names, and no dot
+no-more : {b : ℕ} → goesOn b ≡ false → (k : ℕ) → isNameByte k ≡ true → b ≡ k → ⊥
+no-more {b} a k n f =
+    let z : _≡_ {A = Bool} true false = rw n at (ap goesOn (sym f) ∙ a) in
+    let w : _≡_ {A = ℕ} 0 1 = cc in
+    omega arith
+
+no-dot : {b : ℕ} → goesOn b ≡ false → b ≡ 46 → ⊥
+no-dot {b} a f =
+    let z : _≡_ {A = Bool} true false = ap goesOn (sym f) ∙ a in
+    let w : _≡_ {A = ℕ} 0 1 = cc in
+    omega arith
+
+-- no exponent stands where neither `e` nor `E` does
+no-exponent : (s : Text) (q : Place) (n : Numeral) → goesOn (byteAt s (q .offset)) ≡ false → exponentOr s q n ≡ n
+unfolding exponentOr
+no-exponent s q n a = rw (ne-eqb (byteAt s (q .offset)) 101 (no-more a 101 refl), ne-eqb (byteAt s (q .offset)) 69 (no-more a 69 refl), exponentOr) refl
+
 -- ---- plain integers
 
 -- digits that no dot and no exponent follows are an integer
-alone-whole : (s : Text) (w : ℕ) (q : Place) → eqb (byteAt s (q .offset)) 46 ≡ false → eqb (byteAt s (q .offset)) 101 ≡ false → eqb (byteAt s (q .offset)) 69 ≡ false → pastDigits s w q ≡ whole w q
-unfolding pastDigits exponentOr
-alone-whole s w q x y z = rw (x, y, z, pastDigits, exponentOr) refl
+alone-whole : (s : Text) (w : ℕ) (q : Place) → goesOn (byteAt s (q .offset)) ≡ false → pastDigits s w q ≡ whole w q
+unfolding pastDigits
+alone-whole s w q a = rw (ne-eqb (byteAt s (q .offset)) 46 (no-dot a), pastDigits) (no-exponent s q (whole w q) a)
 
 -- what a plain integer is: its end, its digits, and what does not follow
 pub record IsInt (s : Text) (o e : ℕ) : Type 0 where
@@ -133,64 +224,8 @@ pub int-few : {s : Text} {o e : ℕ} → IsInt s o e → Few s o e
 int-few v = let l = v .some in let z = v .ends in record { forward = omega arith; few = v .few; digits = omega arith }
 
 module _ (s : Text) (p : Place) (e : ℕ) (v : IsInt s (p .offset) e) where
-  -- a byte of names does not follow
-  no-more : (k : ℕ) → isNameByte k ≡ true → byteAt s e ≡ k → ⊥
-  no-more k n f =
-      let z : _≡_ {A = Bool} true false = rw n at (ap goesOn (sym f) ∙ v .alone) in
-      let w : _≡_ {A = ℕ} 0 1 = cc in
-      omega arith
-
-  no-dot : byteAt s e ≡ 46 → ⊥
-  no-dot f =
-      let z : _≡_ {A = Bool} true false = ap goesOn (sym f) ∙ v .alone in
-      let w : _≡_ {A = ℕ} 0 1 = cc in
-      omega arith
-
-  -- nor does `x` or `b` stand behind the first digit
-  no-base : (k : ℕ) → isNameByte k ≡ true → isDigit k ≡ false → byteAt s (p .offset + 1) ≡ k → ⊥
-  no-base k n d f = go (ltb (p .offset + 1) e) refl
-    where
-      go : (t : Bool) → ltb (p .offset + 1) e ≡ t → ⊥
-      go true t =
-          let l : p .offset + 1 < e = ltb-true (p .offset + 1) e t in
-          let z = v .ends in
-          let b : isDigit (byteAt s (p .offset + 1)) ≡ true = run-bytes isDigit s (p .offset) (p .offset + 1) (omega arith) (omega arith) .1 in
-          let y : _≡_ {A = Bool} true false = sym b ∙ ap isDigit f ∙ d in
-          let w : _≡_ {A = ℕ} 0 1 = cc in
-          omega arith
-      go false t =
-          let l = ltb-false (p .offset + 1) e t in
-          let z : p .offset < e = v .some in
-          let y : p .offset + 1 ≡ e = omega arith in
-          no-more k n (ap (byteAt s) (sym y) ∙ f)
-
-  abbrev size : ℕ
-  size = countOf isDigit (drop (p .offset) s)
-
   abbrev value : ℕ
   value = intValue s (p .offset) e
-
-  count : e - p .offset ≡ size
-  count = let z = v .ends in omega arith
-
-  follows : byteAt (drop (p .offset) s) size ≡ byteAt s e
-  follows = getD-drop (p .offset) s size 256 ∙ ap (byteAt s) (sym (v .ends))
-
-  first : isDigitIn 10 (byteAt s (p .offset)) ≡ true
-  first =
-      let z = v .ends in
-      let l : p .offset < e = v .some in
-      let b : isDigit (byteAt s (p .offset)) ≡ true = run-bytes isDigit s (p .offset) (p .offset) (omega arith) (omega arith) .1 in
-      let i = digit-bounds (byteAt s (p .offset)) b .1 in
-      let d = digit-value (byteAt s (p .offset)) b in
-      lt-ltb (digitOf (byteAt s (p .offset))) 10 (omega arith)
-
-  digits-plain : digits false ExpectedDigit 10 s p ≡ Digits value (onBy (e - p .offset) p)
-  unfolding digits
-  digits-plain =
-      rw (first, digits)
-      (run-plain (drop (p .offset) s) 0 p (λ z. no-more 95 refl (sym follows ∙ z))
-      ∙ ap (λ (k : ℕ). Digits (valueFrom 0 (take k (drop (p .offset) s))) (onBy k p)) (sym count))
 
   whole-plain : (q : Place) → whole value q ≡ Int (pos value) q
   unfolding whole
@@ -201,21 +236,120 @@ module _ (s : Text) (p : Place) (e : ℕ) (v : IsInt s (p .offset) e) where
 
   decimal-plain : decimal s p ≡ Int (pos value) (onBy (e - p .offset) p)
   unfolding decimal
-  decimal-plain = ap (decimalOf s) digits-plain ∙ alone-whole s value (onBy (e - p .offset) p) (none 46 no-dot) (none 101 (no-more 101 refl)) (none 69 (no-more 69 refl)) ∙ whole-plain (onBy (e - p .offset) p)
-    where
-      none : (k : ℕ) → (byteAt s e ≡ k → ⊥) → eqb (byteAt s (p .offset + (e - p .offset))) k ≡ false
-      none k m = ne-eqb _ k (λ f. m (ap (byteAt s) (let l : p .offset < e = v .some in let z : e ≡ p .offset + (e - p .offset) = omega arith in z) ∙ f))
+  decimal-plain =
+      let l : p .offset < e = v .some in
+      let z : p .offset + (e - p .offset) ≡ e = omega arith in
+      ap (decimalOf s) (digits-plain s p e (v .ends) (v .some) (no-more (v .alone) 95 refl))
+      ∙ alone-whole s value (onBy (e - p .offset) p) (ap (λ (k : ℕ). goesOn (byteAt s k)) z ∙ v .alone)
+      ∙ whole-plain (onBy (e - p .offset) p)
 
   -- the rules read it: an integer of that value, to that end
   pub plain-number : number s p ≡ Int (pos value) (onBy (e - p .offset) p)
-  unfolding number
-  plain-number = go (eqb (byteAt s (p .offset)) 48) (ne-eqb (byteAt s (p .offset + 1)) 120 (no-base 120 refl refl)) (ne-eqb (byteAt s (p .offset + 1)) 98 (no-base 98 refl refl))
-    where
-      go : (t : Bool) → eqb (byteAt s (p .offset + 1)) 120 ≡ false → eqb (byteAt s (p .offset + 1)) 98 ≡ false
-          → elim t as (λ u. Numeral) [ true ↦ elim (eqb (byteAt s (p .offset + 1)) 120) as (λ u. Numeral) [ true ↦ based 16 s (onBy 2 p) | false ↦ elim (eqb (byteAt s (p .offset + 1)) 98) as (λ u. Numeral) [ true ↦ based 2 s (onBy 2 p) | false ↦ decimal s p ] ] | false ↦ decimal s p ]
-          ≡ Int (pos value) (onBy (e - p .offset) p)
-      go true x y = rw (x, y) decimal-plain
-      go false x y = decimal-plain
+  plain-number = decimal-number s p e (v .ends) (v .some) (no-more (v .alone) 120 refl) (no-more (v .alone) 98 refl) ∙ decimal-plain
+
+-- ---- plain fractions
+
+-- what a plain fraction is: its dot behind digits, its end behind others, and what does not follow
+pub record IsFloat (s : Text) (o d e : ℕ) : Type 0 where
+  pub whole-ends : d ≡ endOf isDigit s o
+  pub whole-some : o < d
+  pub dot : byteAt s d ≡ 46
+  pub ends : e ≡ endOf isDigit s (d + 1)
+  pub some : d + 1 < e
+  pub inside : e ≤ length s
+  pub alone : goesOn (byteAt s e) ≡ false
+
+pub is-float : (s : Text) (o : ℕ) {e : ℕ} → e ≡ floatEnd s o → (e ≡ 0 → ⊥) → IsFloat s o (endOf isDigit s o) e
+unfolding floatEnd
+is-float s o {e} f n = go (isFloat s o d x) refl
+  where
+    d : ℕ
+    d = endOf isDigit s o
+
+    x : ℕ
+    x = fractionEnd s o
+
+    go : (t : Bool) → isFloat s o d x ≡ t → IsFloat s o d e
+    go false z = absurd (n (f ∙ rw (z, floatEnd) refl))
+    go true z =
+        let w : e ≡ x = f ∙ rw (z, floatEnd) refl in
+        let a = and-eq-true-iff (ltb o d && eqb (byteAt s d) 46 && ltb (d + 1) x) (not (goesOn (byteAt s x))) .0 z in
+        let b = and-eq-true-iff (ltb o d && eqb (byteAt s d) 46) (ltb (d + 1) x) .0 (a .0) in
+        let c = and-eq-true-iff (ltb o d) (eqb (byteAt s d) 46) .0 (b .0) in
+        let l : o < d = ltb-true o d (c .0) in
+        let m : d + 1 < x = ltb-true (d + 1) x (b .1) in
+        let i = run-bytes isDigit s (d + 1) (d + 1) (omega arith) m .0 in
+        let j = end-inside isDigit s (d + 1) (omega arith) in
+        record {
+          whole-ends = refl;
+          whole-some = l;
+          dot = eqb-true (byteAt s d) 46 (c .1);
+          ends = w;
+          some = omega arith;
+          inside = omega arith;
+          alone = ap (λ (k : ℕ). goesOn (byteAt s k)) w ∙ not-true _ (a .1);
+        }
+
+module _ (s : Text) (p : Place) (d e : ℕ) (v : IsFloat s (p .offset) d e) where
+  -- the dot, and past it
+  abbrev at-dot : Place
+  at-dot = onBy (d - p .offset) p
+
+  abbrev past-dot : Place
+  past-dot = onBy 1 at-dot
+
+  abbrev past-all : Place
+  past-all = onBy (e - past-dot .offset) past-dot
+
+  dot-at : at-dot .offset ≡ d
+  dot-at = let l : p .offset < d = v .whole-some in let z : p .offset + (d - p .offset) ≡ d = omega arith in z
+
+  fraction-ends : e ≡ endOf isDigit s (past-dot .offset)
+  fraction-ends = v .ends ∙ ap (λ (k : ℕ). endOf isDigit s (k + 1)) (sym dot-at)
+
+  fraction-some : past-dot .offset < e
+  fraction-some = let l : d + 1 < e = v .some in let z = dot-at in omega arith
+
+  end-at : past-all .offset ≡ e
+  end-at = let l = fraction-some in omega arith
+
+  fraction-plain : fraction s past-dot ≡ Float past-all
+  unfolding fraction
+  fraction-plain =
+      ap (pastFraction s) (digits-plain s past-dot e fraction-ends fraction-some (no-more (v .alone) 95 refl))
+      ∙ no-exponent s past-all (Float past-all) (ap (λ (k : ℕ). goesOn (byteAt s k)) end-at ∙ v .alone)
+
+  dotted-plain : (w : ℕ) → dotted s w at-dot ≡ fraction s past-dot
+  unfolding dotted
+  dotted-plain w =
+      let i = digit-bounds (byteAt s (past-dot .offset)) (first s past-dot e fraction-ends fraction-some) .1 in
+      rw (ne-eqb (byteAt s (past-dot .offset)) 95 (λ z. omega arith), first-in s past-dot e fraction-ends fraction-some, dotted) refl
+
+  past-plain : (w : ℕ) → pastDigits s w at-dot ≡ dotted s w at-dot
+  unfolding pastDigits
+  past-plain w = rw (eq-eqb (byteAt s (at-dot .offset)) 46 (ap (byteAt s) dot-at ∙ v .dot), pastDigits) refl
+
+  -- the dot is no other byte
+  not-dot : (k : ℕ) → eqb 46 k ≡ false → byteAt s d ≡ k → ⊥
+  not-dot k n f = eqb-false 46 k n (sym (v .dot) ∙ f)
+
+  decimal-float : decimal s p ≡ Float past-all
+  unfolding decimal
+  decimal-float =
+      ap (decimalOf s) (digits-plain s p d (v .whole-ends) (v .whole-some) (not-dot 95 refl))
+      ∙ past-plain (intValue s (p .offset) d)
+      ∙ dotted-plain (intValue s (p .offset) d)
+      ∙ fraction-plain
+
+  -- the rules read it: a float to that end
+  pub plain-float : number s p ≡ Float (onBy (e - p .offset) p)
+  plain-float =
+      let l : p .offset < d = v .whole-some in
+      let m : d + 1 < e = v .some in
+      let y : d - p .offset + 1 + (e - past-dot .offset) ≡ e - p .offset = omega arith in
+      decimal-number s p d (v .whole-ends) (v .whole-some) (not-dot 120 refl) (not-dot 98 refl)
+      ∙ decimal-float
+      ∙ ap Float (ap (onBy (e - past-dot .offset)) (onBy-onBy (d - p .offset) 1 p) ∙ onBy-onBy (d - p .offset + 1) (e - past-dot .offset) p ∙ ap (λ (k : ℕ). onBy k p) y)
 
 -- ---- plain strings
 

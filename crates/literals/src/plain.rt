@@ -1,4 +1,4 @@
-// Plain literals: integers of decimal digits, strings without escapes. A leaf that finds none answers 0, and the readers of all literals decide.
+// Plain literals: integers and fractions of decimal digits, strings without escapes. A leaf that finds none answers 0, and the readers of all literals decide.
 use characters::names::is_name_byte;
 use characters::names::is_small;
 use characters::place::byte;
@@ -10,7 +10,7 @@ ghost use Rattle.characters.specs.Text.{byteAt};
 ghost use Rattle.characters.specs.Counts.{endOf};
 ghost use Rattle.characters.specs.Names.{isDigit, isSmall};
 ghost use Rattle.literals.specs.Strings.{isQuote};
-ghost use Rattle.literals.specs.Plain.{Few, IntOf, goesOn, intEnd, isItself, stringEnd};
+ghost use Rattle.literals.specs.Plain.{Few, IntOf, floatEnd, goesOn, intEnd, isItself, stringEnd};
 
 // A decimal digit.
 fn is_digit(b: u8) -> bool
@@ -48,12 +48,11 @@ fn goes_on(b: u32) -> bool
     b == 46
 }
 
-// Where the plain integer at `from` ends, or 0: at most eighteen digits, which no number goes on behind.
-pub fn int_end(text: &[u8], from: u32) -> u32
-    requires { ⌜ (from ≤ length (now text)) × (length (now text) < 2 ^ 31) ⌝ }
+// Where the plain integer at `from` ends, or 0: at most eighteen digits, which no number goes on behind. Its digits end at `end`.
+pub fn int_end(text: &[u8], from: u32, end: u32) -> u32
+    requires { ⌜ (from ≤ length (now text)) × (length (now text) < 2 ^ 31) × (end ≡ endOf isDigit (now text) from) ⌝ }
     ensures { λ r. ⌜ r ≡ intEnd (now (text .entry)) from ⌝ }
 {
-    let end = digits_end(text, from);
     if end <= from {
         return 0;
     }
@@ -62,6 +61,30 @@ pub fn int_end(text: &[u8], from: u32) -> u32
     }
     let b = byte(text, end);
     if goes_on(b) {
+        return 0;
+    }
+    end
+}
+
+// Where the plain fraction at `from` ends, or 0: digits, a dot and digits, which no number goes on behind. Its first digits end at `dot`.
+pub fn float_end(text: &[u8], from: u32, dot: u32) -> u32
+    requires { ⌜ (from ≤ length (now text)) × (length (now text) < 2 ^ 31) × (dot ≡ endOf isDigit (now text) from) ⌝ }
+    ensures { λ r. ⌜ r ≡ floatEnd (now (text .entry)) from ⌝ }
+{
+    if dot <= from {
+        return 0;
+    }
+    let b = byte(text, dot);
+    if b != 46 {
+        return 0;
+    }
+    let first = dot + 1;
+    let end = digits_end(text, first);
+    if end <= first {
+        return 0;
+    }
+    let c = byte(text, end);
+    if goes_on(c) {
         return 0;
     }
     end

@@ -2,12 +2,12 @@
 use mathlib.Core.Path.{_≡_, refl, sym, ap, subst, subst⁻¹, _∙_}
 use mathlib.Core.Bool.{Bool, true, false, _&&_, _||_, not}
 use mathlib.Core.List.{[], _∷_}
-use mathlib.Core.Logic.{_⊎_, inl, inr, ⊎-elim}
+use mathlib.Core.Logic.{_⊎_, inl, inr}
 use Prim.Native.Nat.{ℕ, _+_, _≤_, _<_}
 use native.Mathlib.Omega.{arith}
 use lib.Dec.{eqb}
 use lib.ListN.{length, drop, length-drop}
-use borrow.Author.Tests.{eq-eqb, ne-eqb, eqb-true, eqb-false}
+use borrow.Author.Tests.{eq-eqb, ne-eqb}
 use Rattle.characters.specs.declared.place.Place.{Place}
 use Rattle.characters.specs.declared.refusal.Refusal.{Refusal}
 use Rattle.characters.specs.declared.refusal.Refusal.the-variants.{EndOfInput, ExpectedToken, PostfixIncrement, IncrementAsExpression}
@@ -17,8 +17,8 @@ use Rattle.characters.specs.declared.tokens.Must.{Must}
 use Rattle.characters.specs.declared.tokens.Must.the-variants.{Taken, Failed}
 use Rattle.characters.specs.Text.{Text, byteAt, ByteOf, ascii, onBy, Stands}
 use Rattle.characters.specs.PlaceLaws.{front, onBy-stands}
-use Rattle.characters.specs.Blanks.{blanks, opensBlank, spaces}
-use Rattle.characters.specs.BlankLaws.{PassedOn, blanks-on, bare, only-spaces, spaced-stands}
+use Rattle.characters.specs.Blanks.{blanks, opensBlank}
+use Rattle.characters.specs.BlankLaws.{PassedOn, blanks-on, bare}
 use Rattle.characters.specs.Names.{isNameByte, name}
 use Rattle.characters.specs.NameLaws.{NamedOn, name-on}
 use Rattle.characters.specs.Tokens.{spells, foundBy, isKeyword, token, needed, expected}
@@ -30,7 +30,7 @@ use Rattle.grammar.specs.declared.leaves.Prefix.the-variants as prefix
 use Rattle.grammar.specs.declared.leaves.Postfix.{Postfix}
 use Rattle.grammar.specs.declared.leaves.Postfix.the-variants as post
 use Rattle.grammar.specs.declared.leaves.Suffix.the-variants as suffix
-use Rattle.grammar.specs.LeafLaws.{followAt, opensSuffix, restsBy}
+use Rattle.grammar.specs.LeafLaws.{followAt}
 use Rattle.grammar.specs.Leaves.{prefixBy, prefixPast, prefixOf, memberBy, instanceBy, instancePast, postfixBy, postfixPast, postfixOf, closeBy, closePast, closeOf, commaBy, followBy, followOf, keyAt}
 
 pub passed : {s : Text} {at h q : Place} {r : Must} → Stands s at → r ≡ blanks s at → r ≡ Taken h q → Stands s q
@@ -314,57 +314,3 @@ follow-near {s} {at} {q} {c} {end} v e g f h l z =
     go : (u : Bool) → followBy s (foundBy u 1 q) ≡ elim u as (λ w. Look) [ true ↦ Found q (onBy 1 q) | false ↦ elim (eqb 44 c) as (λ w. Look) [ true ↦ Missing (onBy 1 q) | false ↦ Halted ExpectedToken q ] ]
     go true = refl
     go false = ap (λ (m : Look). commaBy (needed m)) (sign-token s q (omega arith) (bare g f h) ∙ ap (λ (x : ℕ). foundBy (eqb 44 x) 1 q) (sym (g .is))) ∙ comma (eqb 44 c)
-
--- ---- after an operand
-
-module _ (b c : ℕ) {t : Bool} (f : t ≡ opensBlank b) where
-  pub rests-blank : t ≡ true → false ≡ restsBy b c
-  rests-blank z = sym (ap (λ (u : Bool). not (u || opensSuffix b c)) (sym f ∙ z))
-
-  pub rests-here : t ≡ false → (b ≡ 40 → ⊥) → (b ≡ 46 → ⊥) → (b ≡ 91 → ⊥) → (b ≡ 105 → ⊥) → ((b ≡ 43) ⊎ (b ≡ 45) → ⊥) → true ≡ restsBy b c
-  rests-here z n₁ n₂ n₃ n₄ n₅ =
-      let x : opensSuffix b c ≡ false = rw (ne-eqb b 40 n₁, ne-eqb b 46 n₂, ne-eqb b 91 n₃, ne-eqb b 105 n₄, ne-eqb b 43 (λ e. n₅ (inl e)), ne-eqb b 45 (λ e. n₅ (inr e))) refl in
-      sym (ap (λ (u : Bool). not (u || opensSuffix b c)) (sym f ∙ z) ∙ ap not x)
-
-pub rests-by : {b : ℕ} (c k : ℕ) → b ≡ k → restsBy k c ≡ restsBy b c
-rests-by c k z = ap (λ (x : ℕ). restsBy x c) (sym z)
-
-pub rests-sign : {b : ℕ} (c : ℕ) → (b ≡ 43) ⊎ (b ≡ 45) → not (eqb c b) ≡ restsBy b c
-rests-sign c (inl z) = ap (λ (x : ℕ). not (eqb c x)) z ∙ rests-by c 43 z
-rests-sign c (inr z) = ap (λ (x : ℕ). not (eqb c x)) z ∙ rests-by c 45 z
-
--- where no blank and no suffix begins past the spaces, nothing follows the base
-module _ {s : Text} {p q : Place} {n b c : ℕ} {t : Bool} (v : Stands s p) (e : n ≡ spaces s (p .offset)) (z : q ≡ onBy n p)
-    (g : ByteOf s (q .offset) b) (g′ : ByteOf s (q .offset + 1) c) (f : t ≡ restsBy b c) (h : t ≡ true) where
-  neither : (u v : Bool) → not (u || v) ≡ true → (u ≡ false) × (v ≡ false)
-  neither true v e = absurd (let z : _≡_ {A = ℕ} 0 1 = cc in omega arith)
-  neither false true e = absurd (let z : _≡_ {A = ℕ} 0 1 = cc in omega arith)
-  neither false false e = (refl, refl)
-
-  sure : (opensBlank b ≡ false) × (opensSuffix b c ≡ false)
-  sure = neither (opensBlank b) (opensSuffix b c) (sym f ∙ h)
-
-  -- a byte that opens a suffix is none
-  not-this : (k : ℕ) → opensSuffix k c ≡ true → b ≡ k → ⊥
-  not-this k o w = let y : opensSuffix k c ≡ false = ap (λ (x : ℕ). opensSuffix x c) (sym w) ∙ sure .1 in let i : _≡_ {A = ℕ} 0 1 = cc in omega arith
-
-  rest-at : post.Rest q ≡ postfixBy s (byteAt s (q .offset)) (byteAt s (q .offset + 1)) q
-  rest-at = go (eqb b 43) refl (eqb b 45) refl
-    where
-      st : Stands s q
-      st = spaced-stands v e z
-
-      sign : (k : ℕ) → b ≡ k → opensSuffix k k ≡ true → c ≡ b → ⊥
-      sign k w o y =
-          let i : opensSuffix k k ≡ false = ap (λ (x : ℕ). opensSuffix k x) (sym w ∙ sym y) ∙ ap (λ (x : ℕ). opensSuffix x c) (sym w) ∙ sure .1 in
-          let j : _≡_ {A = ℕ} 0 1 = cc in omega arith
-
-      go : (x : Bool) → eqb b 43 ≡ x → (y : Bool) → eqb b 45 ≡ y → post.Rest q ≡ postfixBy s (byteAt s (q .offset)) (byteAt s (q .offset + 1)) q
-      go true i y j = let w = eqb-true b 43 i in postfix-single st g (inl w) g′ (sign 43 w refl)
-      go false i true j = let w = eqb-true b 45 j in postfix-single st g (inr w) g′ (sign 45 w refl)
-      go false i false j =
-          postfix-none st g (not-this 40 refl) (not-this 91 refl) (not-this 46 refl) (not-this 105 refl)
-          (λ w. ⊎-elim (eqb-false b 43 i) (eqb-false b 45 j) w)
-
-  pub rest-near : post.Rest q ≡ postfixOf s p
-  rest-near = postfix-taken v (only-spaces e z g refl (sure .0)) refl rest-at

@@ -1,11 +1,4 @@
-mod Steps
-mod Leads
 mod Leafing
-mod Walking
-mod Naming
 mod Atomic
 mod Links
 mod Heading
-mod Chains
-mod Rounds
-mod Params

@@ -1,6 +1,6 @@
 -- Expressions read by the definitions, by computation. Assumes nothing.
 use mathlib.Core.Path.{_≡_, refl}
-use mathlib.Core.List.{List, [], _∷_, _++_}
+use mathlib.Core.List.{List, [], _∷_}
 use Prim.Native.Nat.{ℕ, _+_}
 use Rattle.characters.specs.declared.place.Place.{Place}
 use Rattle.characters.specs.Text.{Text, ascii, next, past, start, tails}
@@ -21,7 +21,8 @@ use Rattle.records.specs.Rows.{recordOf}
 use Rattle.records.specs.Words.{spanWord}
 use Rattle.grammar.specs.Operators.{firstOf, anyOf, isAssignment}
 use Rattle.grammar.specs.Leaves.{rowOf, leafRow, prefixOf, atomOf, postfixOf, linkOf, closeOf, followOf, keyAt}
-use Rattle.grammar.specs.Expressions.{Routine, expression, grammar}
+use Rattle.grammar.specs.Expressions.{expression}
+use Rattle.grammar.specs.Grammar.{grammar}
 
 -- an expression at the start of a text, with a nesting limit, 100 records and 100 comparisons
 unfoldable pub read : Text → ℕ → Outcome

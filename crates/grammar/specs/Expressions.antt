@@ -1,20 +1,20 @@
 -- The rules of expressions, each headed by its production. A rule is data: it says `call` where it goes one level deeper. Assumes nothing.
-use mathlib.Core.Bool.{Bool, true, false, _&&_, _||_}
+use mathlib.Core.Bool.{Bool, _||_}
 use mathlib.Core.List.{List, [], _∷_}
-use Prim.Native.Nat.{ℕ, zero, suc, _+_, _-_, _*_, _%_}
-use lib.Dec.{leb, ltb, eqb}
+use Prim.Native.Nat.{ℕ, zero, suc, _+_, _-_, _%_}
+use lib.Dec.{leb, eqb}
 use lib.ListN.{length}
 use Rattle.characters.specs.declared.place.Place.{Place}
 use Rattle.characters.specs.declared.place.Span.{Span}
 use Rattle.characters.specs.declared.tokens.Must.{Must}
 use Rattle.characters.specs.declared.tokens.Must.the-variants.{Taken, Failed}
-use Rattle.characters.specs.declared.refusal.Refusal.the-variants.{UnknownAtom, UnaryPlus, AssignmentAsExpression, Duplicate, TooManyArguments}
+use Rattle.characters.specs.declared.refusal.Refusal.the-variants.{UnaryPlus, AssignmentAsExpression, Duplicate, TooManyArguments}
 use Rattle.characters.specs.Text.{Text, ascii}
 use Rattle.characters.specs.Tokens.{token, expected}
 use Rattle.literals.specs.Strings.{sameKey}
 use Rattle.reading.specs.declared.node.Node.{Node}
 use Rattle.reading.specs.Entry.{nowhere}
-use Rattle.reading.specs.Process.{Process, Grammar, done, stop, spent, make, compare, call, test, look, must, bind}
+use Rattle.reading.specs.Process.{Process, done, stop, spent, make, compare, call, test, look, must, bind}
 use Rattle.records.specs.declared.kind.Kind.{Kind}
 use Rattle.records.specs.declared.kind.Kind.the-variants as kinds
 use Rattle.records.specs.declared.row.Row.{Row}
@@ -33,7 +33,6 @@ use Rattle.grammar.specs.declared.leaves.Suffix.{Suffix}
 use Rattle.grammar.specs.declared.leaves.Suffix.the-variants as suffix
 use Rattle.grammar.specs.declared.leaves.Link.{Link}
 use Rattle.grammar.specs.declared.leaves.Link.the-variants.{Choice, Operator, Assign, End}
-use Rattle.grammar.specs.declared.chain.Waiting.{Waiting}
 use Rattle.grammar.specs.Operators.{strengthOf, loosest}
 use Rattle.grammar.specs.Leaves.{rowOf, leafRow, prefixOf, atomOf, postfixOf, linkOf, closeOf, followOf, keyAt}
 
@@ -245,7 +244,13 @@ prefixP s p = prefixAs s (prefixOf s p)
 
 -- ---- expression: prefix { operator prefix } [ '?' expression ':' expression ]
 
--- the operators that wait for their right sides, newest first
+-- an operator that waits for its right side: its number, and its left side's record and position
+pub record Waiting : Type 0 where
+  pub op : ℕ
+  pub left : ℕ
+  pub position : Place
+
+-- the operators that wait, newest first
 abbrev pub Pending : Type 0
 Pending = List Waiting
 
@@ -289,15 +294,3 @@ chainP (suc f) s allowed xs right p = linkAs s allowed xs right p (linkOf s p) (
 unfoldable pub expressionP : Text → Bool → Place → Rule
 unfolding prefixP chainP
 expressionP s allowed p = bind (prefixP s p) (λ q e. chainP (turns s) s allowed [] e q)
-
--- THE GRAMMAR of expressions alone, by which the readers read so far: what a lambda holds are statements, so here it is 13.
--- Grammar.antt has the whole.
-unfoldable pub grammar : Text → Grammar Routine
-unfolding expressionP prefixP
-grammar s expression p = expressionP s false p
-grammar s before-assignment p = expressionP s true p
-grammar s operand p = prefixP s p
-grammar s statement p = stop UnknownAtom p
-grammar s (function from name) p = stop UnknownAtom p
-grammar s lambda p = stop UnknownAtom p
-grammar s (class from names) p = stop UnknownAtom p

@@ -14,7 +14,7 @@ use Rattle.characters.specs.declared.tokens.Must.{Must}
 use Rattle.characters.specs.declared.tokens.Must.the-variants.{Taken, Failed}
 use Rattle.characters.specs.Text.{Text, byteAt, ascii, onBy, Stands}
 use Rattle.characters.specs.PlaceLaws.{Reached, Advanced, reached-on, advanced-on, advanced-reached, in-text, at-end, onBy-stands}
-use Rattle.characters.specs.Blanks.{blanks, opensBlank}
+use Rattle.characters.specs.Blanks.{blanks}
 use Rattle.characters.specs.BlankLaws.{PassedOn, blanks-on}
 use Rattle.characters.specs.Names.{isNameByte, name}
 use Rattle.characters.specs.NameLaws.{NamedOn, name-on}
@@ -197,13 +197,3 @@ key-on s p st = go (isQuote (byteAt s (p .offset)))
 abbrev pub followAt : ℕ → ℕ → Place → Look
 followAt b end h =
     elim (eqb end b) [ true ↦ Found h (onBy 1 h) | false ↦ elim (eqb 44 b) [ true ↦ Missing (onBy 1 h) | false ↦ Halted ExpectedToken h ] ]
-
--- ---- after an operand, where no blank stands
-
--- a suffix may begin with the byte b before c: `(`, `.`, `[`, the `i` of `instanceof`, or a sign that doubles
-abbrev pub opensSuffix : ℕ → ℕ → Bool
-opensSuffix b c = eqb b 40 || eqb b 46 || eqb b 91 || eqb b 105 || ((eqb b 43 || eqb b 45) && eqb c b)
-
--- neither a blank nor a suffix begins with it
-abbrev pub restsBy : ℕ → ℕ → Bool
-restsBy b c = not (opensBlank b || opensSuffix b c)

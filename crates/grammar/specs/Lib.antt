@@ -11,13 +11,7 @@ pub mod Classes
 pub mod Grammar
 pub mod Units
 pub mod AtomLaws
-pub mod Chains
-pub mod ChainLaws
-pub mod Keys
-pub mod KeyLaws
 pub mod Leads
-pub mod Contracts
 pub mod Reads
 pub mod ReadLaws
-pub mod Parameters
 pub mod Examples

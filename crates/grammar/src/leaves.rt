@@ -21,7 +21,7 @@ ghost use Prim.Native.Nat.{_+_, _<_, _≤_, _^_};
 ghost use lib.ListN.{length};
 ghost use Rattle.characters.specs.Text.{Stands, byteAt, onBy};
 ghost use Rattle.characters.specs.Names.{name};
-ghost use Rattle.grammar.specs.LeafLaws.{followAt, restsBy};
+ghost use Rattle.grammar.specs.LeafLaws.{followAt};
 ghost use Rattle.grammar.specs.Leaves.{closeBy, closeOf, followOf, instanceBy, keyAt, memberBy, postfixBy, postfixOf, prefixBy, prefixOf};
 
 // What an operand begins with: a prefix sign and the place after it, or no sign.
@@ -131,20 +131,6 @@ pub fn postfix_of(text: &[u8], at: Place) -> Postfix
     match blanks {
         Must::Failed { refusal, at: q } => Postfix::Wrong { refusal, at: q },
         Must::Taken { here: _, next } => postfix_at(text, next),
-    }
-}
-
-// Does surely no blank and no suffix begin with the byte `b` before `c`?
-pub fn rests(b: u32, c: u32) -> bool
-    ensures { λ r. ⌜ r ≡ restsBy b c ⌝ }
-{
-    if opens_blank(b) {
-        return false;
-    }
-    match b {
-        40 | 46 | 91 | 105 => false,
-        43 | 45 => c != b,
-        _ => true,
     }
 }
 

@@ -1,7 +1,6 @@
-// The rows that the readers make, and the node of a list.
+// The rows that the readers make.
 use characters::place::Place;
 use characters::place::Span;
-use reading::node::Node;
 use records::ids::ClassId;
 use records::ids::FunId;
 use records::kind::Kind;
@@ -13,7 +12,7 @@ ghost use mathlib.Core.Path.{_≡_};
 ghost use Prim.Native.Nat.{_≤_};
 ghost use Rattle.reading.specs.Entry.{nowhere};
 ghost use Rattle.grammar.specs.Leaves.{leafRow, rowOf};
-ghost use Rattle.grammar.specs.Expressions.{listNode, pairRow};
+ghost use Rattle.grammar.specs.Expressions.{pairRow};
 ghost use Rattle.grammar.specs.Functions.{funRow};
 ghost use Rattle.grammar.specs.Classes.{classRow};
 
@@ -41,18 +40,6 @@ pub fn item(element: u32, last: u32) -> Row
         column: 0,
     };
     row(Kind::Item, nowhere, element, last, 0)
-}
-
-// The last item of a list and how many there are, as a node.
-pub fn listed(last: u32, count: u64, at: Place) -> Node
-    ensures { λ r. ⌜ r ≡ listNode last count at ⌝ }
-{
-    Node {
-        number: last,
-        kind: 0,
-        position: at,
-        value: count,
-    }
 }
 
 // A dictionary's item: its value, the item before it and its key.

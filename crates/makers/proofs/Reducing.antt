@@ -20,17 +20,14 @@ use Rattle.records.specs.declared.kind.Kind.the-variants as kinds
 use Rattle.records.specs.Rows.{layout}
 use Rattle.records.specs.Nodes.{Keeps, MakesRow, rowLike}
 use Rattle.records.specs.Laws.Nodes.{row-read, keeps-layout, read-of, refused-of}
-use Rattle.grammar.specs.declared.chain.Waiting.{Waiting}
 use Rattle.grammar.specs.Operators.{strengthOf}
-use Rattle.grammar.specs.Expressions.{Routine, Rule, Pending, reduceP}
-use Rattle.grammar.specs.Chains.{Rising, bottom, above}
-use Rattle.grammar.specs.ChainLaws.{rising-from}
+use Rattle.grammar.specs.Expressions.{Routine, Rule, Waiting, Pending, reduceP}
 use Rattle.grammar.specs.Grammar.{grammar}
 use Rattle.makers.specs.declared.chains.Pends.{Pends}
 use Rattle.makers.specs.declared.chains.Chain.{Chain}
 use Rattle.makers.specs.Contracts.{lastOf, Room}
-use Rattle.makers.specs.Chains.{nothing, waitsAt, entries, pendingOf, Sides, Rises, Reduces}
-use Rattle.makers.specs.Laws.Chains.{ten-enough, sides-on, pending-kept}
+use Rattle.makers.specs.Chains.{nothing, waitsAt, entries, pendingOf, Rising, bottom, above, Sides, Rises, Reduces}
+use Rattle.makers.specs.Laws.Chains.{rising-from, ten-enough, sides-on, pending-kept}
 
 -- ---- an array as a list
 

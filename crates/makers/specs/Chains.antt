@@ -14,9 +14,8 @@ use Rattle.reading.specs.Process.{Grammar}
 use Rattle.reading.specs.Says.{Does}
 use Rattle.records.specs.Rows.{layout}
 use Rattle.records.specs.Nodes.{placeAt}
-use Rattle.grammar.specs.declared.chain.Waiting.{Waiting}
-use Rattle.grammar.specs.Expressions.{Routine, Rule, Pending, reduceP}
-use Rattle.grammar.specs.Chains.{Rising}
+use Rattle.grammar.specs.Operators.{strengthOf}
+use Rattle.grammar.specs.Expressions.{Routine, Rule, Waiting, Pending, reduceP}
 use Rattle.makers.specs.declared.chains.Pends.{Pends}
 use Rattle.makers.specs.declared.chains.Chain.{Chain}
 use Rattle.makers.specs.declared.chains.Reduced.{Reduced}
@@ -38,6 +37,11 @@ entries pool ws (suc n) = waitsAt pool (getD ws n nothing) ∷ entries pool ws n
 -- the list that a chain stands for
 abbrev pub pendingOf : List ℕ → Chain → Pending
 pendingOf pool c = entries pool (c .waiting) (c .len)
+
+-- From b on the strengths rise strictly towards the oldest: each newer operator binds tighter.
+pub data Rising : ℕ → Pending → Type 0 where
+  bottom : {b : ℕ} → Rising b []
+  above : {b : ℕ} {x : Waiting} {xs : Pending} → b ≤ strengthOf (x .op) → Rising (suc (strengthOf (x .op))) xs → Rising b (x ∷ xs)
 
 -- the left sides of the first n are records made
 pub record Sides (ws : List Pends) (n made : ℕ) : Type 0 where

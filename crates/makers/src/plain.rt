@@ -6,6 +6,8 @@ use characters::place::Span;
 use characters::place::byte;
 use grammar::rows::leaf_row;
 use grammar::rows::row;
+use literals::plain::digits_end;
+use literals::plain::float_end;
 use literals::plain::int_end;
 use literals::plain::plain_int;
 use literals::plain::plain_string_end;
@@ -17,7 +19,8 @@ ghost use mathlib.Core.Bool.{true};
 ghost use Prim.Native.Nat.{_+_, _≤_};
 ghost use lib.ListN.{length};
 ghost use Rattle.characters.specs.Text.{Stands, byteAt};
-ghost use Rattle.characters.specs.Names.{isLetter};
+ghost use Rattle.characters.specs.Counts.{endOf};
+ghost use Rattle.characters.specs.Names.{isDigit, isLetter};
 ghost use Rattle.literals.specs.Strings.{isQuote};
 ghost use Rattle.records.specs.Rows.{Lent};
 ghost use Rattle.makers.specs.Plain.{Over, Plain, Rests, nearOf};
@@ -35,8 +38,8 @@ pub fn near(text: &[u8], at: Place) -> Place
 }
 
 // Writes the record of the plain operand at `at`, after `made` others, and answers how many bytes it has: a name that is no reserved word,
-// `true`, `false`, `nil`, a decimal number of at most 18 digits, a string without escapes. 0 where none stands there or no room is left;
-// then nothing is written, and the readers decide.
+// `true`, `false`, `nil`, a decimal integer of at most 18 digits, a decimal fraction, a string without escapes. 0 where none stands there or no
+// room is left; then nothing is written, and the readers decide.
 pub fn plain(text: &[u8], pool: &mut [u32], cap: u32, at: Place, made: u32) -> u32
     requires { ⌜ (length (now text) ≤ 65535) × Stands (now text) at × Lent (now pool) cap × (cap ≤ 65535) ⌝ }
     ensures { λ r. ⌜ Plain (now (text .entry)) cap at made r (now (pool .entry)) (now (pool .exit)) ⌝ }
@@ -46,12 +49,9 @@ pub fn plain(text: &[u8], pool: &mut [u32], cap: u32, at: Place, made: u32) -> u
     }
     let b = byte(text, at.offset);
     match b {
-        34 => plain_string(text, pool, at, made),
-        39 => plain_string(text, pool, at, made),
+        34 | 39 => plain_string(text, pool, at, made),
         48..=57 => plain_number(text, pool, at, made),
-        65..=90 => plain_name(text, pool, at, made),
-        95 => plain_name(text, pool, at, made),
-        97..=122 => plain_name(text, pool, at, made),
+        65..=90 | 95 | 97..=122 => plain_name(text, pool, at, made),
         _ => 0,
     }
 }
@@ -91,18 +91,35 @@ fn plain_name(text: &[u8], pool: &mut [u32], at: Place, made: u32) -> u32
     }
 }
 
-// A decimal integer of at most 18 digits.
+// A decimal integer of at most 18 digits, or a fraction.
 fn plain_number(text: &[u8], pool: &mut [u32], at: Place, made: u32) -> u32
-    requires { ⌜ Stands (now text) at × Lent (now pool) (made + 1) ⌝ }
+    requires { ⌜ (length (now text) ≤ 65535) × Stands (now text) at × Lent (now pool) (made + 1) ⌝ }
     ensures { λ r. ⌜ Plain (now (text .entry)) (made + 1) at made r (now (pool .entry)) (now (pool .exit)) ⌝ }
 {
     let from = at.offset;
-    let to = int_end(text, from);
+    let end = digits_end(text, from);
+    let to = int_end(text, from, end);
     if to == 0 {
-        return 0;
+        return plain_fraction(text, pool, at, made, end);
     }
     let value = plain_int(text, from, to);
     let made_row = leaf_row(Kind::Int, at, value);
+    lay(pool, made, made_row);
+    to - from
+}
+
+// A decimal fraction: its first digits end at `dot`.
+fn plain_fraction(text: &[u8], pool: &mut [u32], at: Place, made: u32, dot: u32) -> u32
+    requires { ⌜ (length (now text) ≤ 65535) × Stands (now text) at × Lent (now pool) (made + 1) × (dot ≡ endOf isDigit (now text) (at .offset)) ⌝ }
+    ensures { λ r. ⌜ Plain (now (text .entry)) (made + 1) at made r (now (pool .entry)) (now (pool .exit)) ⌝ }
+{
+    let from = at.offset;
+    let to = float_end(text, from, dot);
+    if to == 0 {
+        return 0;
+    }
+    let span = pack(Span { from, to });
+    let made_row = row(Kind::Float, at, span, 0, 0);
     lay(pool, made, made_row);
     to - from
 }

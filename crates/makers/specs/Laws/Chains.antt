@@ -25,13 +25,12 @@ use Rattle.records.specs.Laws.Nodes.{place-kept, does-length}
 use Rattle.grammar.specs.Operators.{Operator, operators, operatorOf, strengthOf}
 use Rattle.grammar.specs.LinkLaws.{strengths}
 use Rattle.grammar.specs.Expressions.{Routine, Pending, waits, reduceP}
-use Rattle.grammar.specs.Chains.{Rising, bottom, above}
 use Rattle.grammar.specs.Grammar.{grammar}
 use Rattle.makers.specs.declared.chains.Pends.{Pends}
 use Rattle.makers.specs.declared.chains.Chain.{Chain}
 use Rattle.makers.specs.declared.chains.Reduced.{Reduced}
 use Rattle.makers.specs.Contracts.{Begun, lastOf}
-use Rattle.makers.specs.Chains.{nothing, waitsAt, entries, pendingOf, Sides, Rises, Pushed, Reduces}
+use Rattle.makers.specs.Chains.{nothing, waitsAt, entries, pendingOf, Rising, bottom, above, Sides, Rises, Pushed, Reduces}
 
 -- ---- ten places are enough, for there are ten strengths
 
@@ -54,6 +53,10 @@ rising-length (above {x = x} {xs = xs} h r) l =
     let s = rising-length r (omega arith) in
     let z : length (x ∷ xs) ≡ suc (length xs) = refl in
     omega arith
+
+pub rising-from : {a b : ℕ} {xs : Pending} → a ≤ b → Rising b xs → Rising a xs
+rising-from l bottom = bottom
+rising-from {a} l (above {x = x} h r) = let z : a ≤ strengthOf (x .op) = omega arith in above z r
 
 entries-length : (pool : List ℕ) (ws : List Pends) (n : ℕ) → length (entries pool ws n) ≡ n
 unfolding entries

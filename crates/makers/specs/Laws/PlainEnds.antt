@@ -26,7 +26,6 @@ use Rattle.grammar.specs.declared.leaves.Postfix.the-variants as post
 use Rattle.grammar.specs.declared.leaves.Suffix.the-variants as suffix
 use Rattle.grammar.specs.Operators.{operators, firstOf, anyOf, isAssignment}
 use Rattle.grammar.specs.Leaves.{prefixBy, prefixPast, prefixOf, memberBy, instancePast, postfixBy, postfixPast, postfixOf}
-use Rattle.grammar.specs.LeafLaws.{opensSuffix, restsBy}
 use Rattle.grammar.specs.LinkLaws.{signOf, linkAt, link-sign}
 use Rattle.makers.specs.Plain.{nearOf, Rests, EndsBy, Over}
 
@@ -147,6 +146,14 @@ spells-first s o x w n = go (drop o s) (front s o)
     go [] e = refl
     go (y ∷ t) e = rw (ne-eqb x y (λ z. n (sym e ∙ sym z))) refl
 
+-- a suffix may begin with the byte b before c: `(`, `.`, `[`, the `i` of `instanceof`, or a sign that doubles
+abbrev opensSuffix : ℕ → ℕ → Bool
+opensSuffix b c = eqb b 40 || eqb b 46 || eqb b 91 || eqb b 105 || ((eqb b 43 || eqb b 45) && eqb c b)
+
+-- neither a blank nor a suffix begins with it
+abbrev restsBy : ℕ → ℕ → Bool
+restsBy b c = not (opensBlank b || opensSuffix b c)
+
 -- the tests of `postfixBy`, apart from their bytes
 abbrev postfixTests : Text → Place → Bool → Bool → Bool → Bool → Bool → Postfix
 postfixTests s h call index dot class double =
@@ -195,7 +202,7 @@ module _ (s : Text) (h : Place) (b c : ℕ) (e : b ≡ byteAt s (h .offset)) (n 
       ∙ ap (postfixTests s h false false false false) y
 
 -- two bytes tell
-pub rest-at : {s : Text} {p : Place} {b c : ℕ} → ByteOf s (p .offset) b → c ≡ byteAt s (p .offset + 1) → restsBy b c ≡ true → postfixOf s p ≡ post.Rest p
+rest-at : {s : Text} {p : Place} {b c : ℕ} → ByteOf s (p .offset) b → c ≡ byteAt s (p .offset + 1) → restsBy b c ≡ true → postfixOf s p ≡ post.Rest p
 unfolding postfixOf
 rest-at {s} {p} {b} {c} g f h =
     let z = neither (opensBlank b) (opensSuffix b c) h in

@@ -17,8 +17,8 @@ use Rattle.characters.specs.CountLaws.{end-inside, run-bytes}
 use Rattle.characters.specs.Names.{isDigit, isLetter, isNameByte, part, wordOf}
 use Rattle.characters.specs.NameLaws.{letter-is-name, name-byte-low, name-by-end, end-past-letter}
 use Rattle.literals.specs.Strings.{isQuote}
-use Rattle.literals.specs.Plain.{intEnd, IntOf, stringEnd}
-use Rattle.literals.specs.PlainLaws.{IsInt, is-int, IsString, is-string, digit-bounds, quote-is, plain-number, plain-string, string-inside}
+use Rattle.literals.specs.Plain.{intEnd, floatEnd, IntOf, stringEnd}
+use Rattle.literals.specs.PlainLaws.{IsInt, is-int, IsFloat, is-float, IsString, is-string, digit-bounds, quote-is, plain-number, plain-float, plain-string, string-inside}
 use Rattle.records.specs.declared.kind.Kind.{Kind}
 use Rattle.records.specs.declared.kind.Kind.the-variants as kinds
 use Rattle.records.specs.declared.row.Row.{Row}
@@ -186,6 +186,32 @@ number-made {s} {at} {made} {to} {v} {r} {x} {w} {A} {B} h ends some value row l
     ∙ ap (numberAtom at) (plain-number s at to i)
     ∙ ap (λ (y : ℕ). Leaf kinds.Int y (onBy (to - at .offset) at)) (sym (value .is)))
     row
+    lays)
+
+pub float-spans : {s : Text} {at : Place} {to : ℕ} → Stands s at → to ≡ floatEnd s (at .offset) → (to ≡ 0 → ⊥) → Spans s at to
+float-spans {s} {at} {to} h ends some =
+    let i = is-float s (at .offset) ends some in
+    let l : at .offset < endOf isDigit s (at .offset) = i .whole-some in
+    let m : endOf isDigit s (at .offset) + 1 < to = i .some in
+    (omega arith, i .inside)
+
+pub float-made : {s : Text} {at : Place} {made to span r x : ℕ} {w : Row} {A B : List ℕ} → length s ≤ 65535 → Stands s at → to ≡ floatEnd s (at .offset)
+    → (to ≡ 0 → ⊥) → span ≡ spanWord (at .offset) to → w ≡ rowOf kinds.Float at span 0 0 → Lays made w x A B → r ≡ to - at .offset
+    → Plain s (made + 1) at made r A B
+unfolding atomOf
+float-made {s} {at} {made} {to} {span} {r} {x} {w} {A} {B} short h ends some word row lays e =
+    let b : ℕ = byteAt s (at .offset) in
+    let d : ℕ = endOf isDigit s (at .offset) in
+    let i : IsFloat s (at .offset) d to = is-float s (at .offset) ends some in
+    let j = float-spans h ends some in
+    let l : at .offset < to = j .0 in
+    let m : to ≤ length s = j .1 in
+    let digit : isDigit b ≡ true = run-bytes isDigit s (at .offset) (at .offset) (omega arith) (i .whole-some) .1 in
+    let low = digit-bounds b digit .0 in
+    subst⁻¹ (λ (y : ℕ). Plain s (made + 1) at made y A B) e
+    (leaf-made kinds.Float (spanned at to) h (omega arith) (omega arith) (omega arith) (inr (omega arith))
+    (atom-digit s b at digit ∙ ap (numberAtom at) (plain-float s at d to i))
+    (span-row kinds.Float short h j word row)
     lays)
 
 -- ---- strings

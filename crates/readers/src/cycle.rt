@@ -306,16 +306,20 @@ fn prefix(
             tally: t,
         },
         Prefix::Other { here } => postfix(text, pool, cap, comps, left, here, t),
-        Prefix::Sign { sign, here, next } => {
+        Prefix::Sign {
+            sign,
+            here,
+            next: operand,
+        } => {
             if left == 0 {
                 return Got::Refused {
                     refusal: Refusal::TooDeep,
-                    at: next,
+                    at: operand,
                     tally: t,
                 };
             }
             let lower = left - 1;
-            let inner = prefix(text, pool, cap, comps, lower, next, t);
+            let inner = prefix(text, pool, cap, comps, lower, operand, t);
             let Got::Read { at: q, tally: u } = inner else {
                 return inner;
             };

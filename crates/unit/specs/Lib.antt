@@ -1,6 +1,8 @@
 pub mod Promises
 pub mod Entries
 pub mod EntryLaws
+pub mod Items
+pub mod Laws
 pub mod Suits
 pub mod Refusing
 pub mod HeadRefusing

@@ -8,7 +8,7 @@ use lib.Dec.{leb, ltb, eqb}
 use lib.ListN.{length, getD, drop, length-append, length-take, length-drop, List·getD-map}
 use borrow.Author.Tests.{ltb-true, ltb-false, leb-true}
 use Rattle.characters.specs.declared.place.Place.{Place}
-use Rattle.characters.specs.Text.{Text, start, onBy}
+use Rattle.characters.specs.Text.{Text, ascii, start, onBy}
 use Rattle.literals.specs.declared.bytearrays.Mode.{Mode}
 use Rattle.literals.specs.declared.bytearrays.Mode.the-variants.{Between}
 use Rattle.literals.specs.declared.bytearrays.Seen.{Seen}
@@ -16,6 +16,7 @@ use Rattle.literals.specs.declared.bytearrays.Seen.the-variants.{Byte, Opened, 
 use Rattle.literals.specs.Strings.{decode, widthIn, keyOf}
 use Rattle.literals.specs.SpellingLaws.{key-length}
 use Rattle.literals.specs.ByteArrays.{Contents, shut, halted, push, read, contents, bytesOf, listed, step}
+use Rattle.reading.specs.declared.answer.Answer.{Answer}
 use Rattle.records.specs.declared.kind.Kind.{Kind}
 use Rattle.records.specs.declared.kind.KindAt.{KindAt}
 use Rattle.records.specs.declared.kind.KindAt.the-variants.{Known, Unknown}
@@ -27,7 +28,7 @@ use Rattle.records.specs.Rows.{width, rowBy, rowIf, rowAt}
 use Rattle.records.specs.Laws.Kinds.{kind-number}
 use Rattle.listing.specs.declared.fields.Form.{Form}
 use Rattle.listing.specs.declared.fields.Form.the-variants.{Hidden, Plain, Named, Quoted, Array, Float, Int, Prefix, Sign}
-use Rattle.listing.specs.Listing.{decimal, signed, place, spanned, name, utf8, characters, spelled, quoted, pairs, bytes, minus, prefixes, signs, field, formAt, nameOf, isItem, positioned, fields, lineOf, lineBy, lineAt}
+use Rattle.listing.specs.Listing.{decimal, signed, place, spanned, name, utf8, characters, spelled, quoted, pairs, bytes, minus, prefixes, signs, field, formAt, nameOf, isItem, positioned, fields, lineOf, lineBy, lineAt, counts, lastLine}
 use Rattle.listing.specs.Laws.Numbers.{decimal-one, decimal-more}
 use Rattle.listing.specs.Laws.Texts.{utf8-one, utf8-two, utf8-three, utf8-four}
 use Rattle.listing.specs.Laws.Kinds.{names, name-at}
@@ -308,3 +309,47 @@ at-length s pool n l h =
     (record { offset = getD pool (o + 1) 0; line = getD pool (o + 2) 0; column = getD pool (o + 3) 0 })
     (getD pool (o + 4) 0) (getD pool (o + 5) 0) (getD pool (o + 6) 0) (getD pool (o + 7) 0)
     (h (o + 2)) (h (o + 3)) (h (o + 4)) (h (o + 5)) (h (o + 6)) (h (o + 7))
+
+-- ---- the last line
+
+-- The numbers of an answer are u32.
+pub record SmallAnswer (a : Answer) : Type 0 where
+  pub number : a .number < 4294967296
+  pub line : a .line < 4294967296
+  pub column : a .column < 4294967296
+  pub records : a .records < 4294967296
+  pub comparisons : a .comparisons < 4294967296
+
+counts-length : (a : Answer) → SmallAnswer a → length (counts a) ≤ 22
+counts-length a h =
+    let r = decimal (a .records) in
+    let c : Text = 32 ∷ decimal (a .comparisons) in
+    let x = word (a .records) (h .records) in
+    let y = word (a .comparisons) (h .comparisons) in
+    let u = length-append r c in
+    let v = length-append (r ++ c) (10 ∷ []) in
+    omega arith
+
+pub last-length : (a : Answer) → SmallAnswer a → length (lastLine a) ≤ 65
+unfolding lastLine
+last-length a h = go (eqb (a .number) 0)
+  where
+    go : (t : Bool) → length {A = ℕ} (elim t as (λ u. Text) [ true ↦ ascii "ok " ++ counts a | false ↦ ascii "refused " ++ decimal (a .number) ++ (32 ∷ place (a .line) (a .column)) ++ (32 ∷ counts a) ]) ≤ 65
+    go true =
+        let z = counts-length a h in
+        let l : length (ascii "ok ") ≡ 3 = refl in
+        let u = length-append (ascii "ok ") (counts a) in
+        omega arith
+    go false =
+        let n = decimal (a .number) in
+        let p : Text = 32 ∷ place (a .line) (a .column) in
+        let z = counts-length a h in
+        let x = word (a .number) (h .number) in
+        let y = word (a .line) (h .line) in
+        let w = word (a .column) (h .column) in
+        let l : length (ascii "refused ") ≡ 8 = refl in
+        let e = length-append (decimal (a .line)) (58 ∷ decimal (a .column)) in
+        let t = length-append (ascii "refused ") n in
+        let u = length-append (ascii "refused " ++ n) p in
+        let v = length-append (ascii "refused " ++ n ++ p) (32 ∷ counts a) in
+        omega arith

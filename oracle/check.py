@@ -3,7 +3,7 @@
 
 usage: python3 oracle/check.py [FOLDER]    (the engine's sources, default ../shared/docs/src)
 
-Builds the oracle, makes the stored lists and what crates/*_cases replay again and
+Builds the oracle and the second reading, makes the stored lists and what crates/*_cases replay again and
 compares them byte for byte, counts the lists' texts by answer, runs the generator
 twice, runs 01's desk examples and every text quoted in docs/MESSAGES.md,
 docs/LISTING.md and docs/DIFFERENCES.md.
@@ -220,13 +220,14 @@ def check_differences():
 
 def check_replayed():
     """What the gate replays is what the engine says today."""
-    for maker in ["cases.py", "expressions.py"]:
+    for maker in ["cases.py", "units.py"]:
         done = subprocess.run([sys.executable, os.path.join(HERE, maker), "--check"], stdout=subprocess.PIPE)
         tell(done.returncode == 0, "%s --check: %s" % (maker, done.stdout.decode().strip().replace("\n", "\n      ")))
 
 
 def main():
     subprocess.run(["sh", os.path.join(HERE, "build"), FOLDER], check=True)
+    subprocess.run(["sh", os.path.join(HERE, "second", "build")], check=True)
     check_lists()
     check_replayed()
     check_generator()

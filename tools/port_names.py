@@ -42,6 +42,16 @@ def of_lemmas(path):
     return "/specs/" in path or (rest and "/" not in rest)
 
 
+def of_libraries(text):
+    """The names that a file imports from the kit's libraries: those stay."""
+    own = "|".join(sorted(os.listdir(os.path.join(HERE, "crates"))))
+    found = set()
+    for path, items in re.findall(r"\buse ([^\s;{]+)\.\{([^}]*)\}", text):
+        if not re.match(rf"Rattle\.({own})\.", path):
+            found |= {w.split(" as ")[0].strip() for w in items.split(",")}
+    return found
+
+
 def snake(name):
     words = re.sub(r"(?<=[a-z0-9])([A-Z])", lambda m: "_" + m[1].lower(), name)
     return re.sub(r"(?<=[\w'])-(?=[\w'])", "_", words)
@@ -87,7 +97,8 @@ def main():
         old = read(path)
         here = IN_ONE_FILE.get(os.path.relpath(path, HERE))
         new = re.sub(rf"(?<!{CUT}){here}(?!{CUT})", f"{here}_lem", old) if here else old
-        new = name.sub(lambda m: turned[m[1]], new)
+        kept = of_libraries(old)
+        new = name.sub(lambda m: m[1] if m[1] in kept else turned[m[1]], new)
         if new != old:
             with open(path, "w", encoding="utf-8") as f:
                 f.write(new)

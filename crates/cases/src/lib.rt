@@ -1,5 +1,7 @@
 // A list of cases held in one slice. Each case is a line `KIND LENGTH`, then as many bytes of text, then an LF. KIND is a
 // small letter, LENGTH a decimal number. The texts may hold any bytes.
+#![tactic(auto)]
+
 use characters::place::Place;
 
 pub mod say;
@@ -9,7 +11,7 @@ ghost use Rattle.characters.specs.Text.{ByteOf, Stands};
 ghost use Rattle.cases.specs.Cases.{SizeOf, case_at, is_kind};
 
 // What stands at an offset of a list.
-#[derive(Drop)]
+#[derive(Clone, Copy)]
 pub enum Case {
     // A case: its text goes from `from` up to `to`, and `next` is past it.
     Text {
@@ -27,7 +29,7 @@ pub enum Case {
 }
 
 // The length that a case states, and the offset after its digits.
-#[derive(Drop)]
+#[derive(Clone, Copy)]
 pub struct Size {
     pub value: usize,
     pub after: usize,

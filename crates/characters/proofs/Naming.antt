@@ -8,7 +8,7 @@ use lib.Dec.{eqb, leb, ltb}
 use native.Mathlib.Nat.{pow-zero, pow-succ', pow-le-pow_right, mul-one, one-mul, mul_assoc}
 use lib.ListN.{length, take, drop, get_or, length-take, length-drop, get_or-eq_default}
 use lib.Seq.{take-suc, get_or-drop, get_or-take}
-use borrow.Author.Tests.{eq-eqb, ne_eqb, ltb-true, ltb-false, le-leb, lt-leb, not_true, not_false}
+use borrow.Author.Tests.{eq-eqb, ne_eqb, ltb-true, ltb-false, le-leb, lt-leb, not-true, not-false}
 use Rattle.characters.specs.declared.place.Place.{Place}
 use Rattle.characters.specs.declared.refusal.Refusal.{Refusal}
 use Rattle.characters.specs.declared.refusal.Refusal.TheVariants.{ExpectedIdentifier, ReservedWord}
@@ -49,7 +49,7 @@ digit_is b h k = rw (← letter_low b (omega arith), le-leb 48 b h, le-leb b 57 
 
 -- the first letter, by what a test of it answered
 letter_here : {s : Text} {o b : ℕ} {r : Bool} → ByteOf s o b → r ≡ is_letter b → not r ≡ false → is_letter (byte_at s o) ≡ true
-letter_here e l n = ap is_letter (sym e.is) ∙ sym l ∙ not_false _ n
+letter_here e l n = ap is_letter (sym e.is) ∙ sym l ∙ not-false _ n
 
 pub letter_inside : {s : Text} {o b : ℕ} {r : Bool} → ByteOf s o b → r ≡ is_letter b → not r ≡ false → o < length s
 letter_inside {s} {o} e l n = let i = name_byte_low (byte_at s o) (letter_is_name (byte_at s o) (letter_here e l n)) in in_text s o (omega arith)
@@ -71,7 +71,7 @@ name_ends {s} {at} f l n z g =
 
 pub name_none : {s : Text} {at : Place} {b : ℕ} {r : Bool} → ByteOf s at.offset b → r ≡ is_letter b → not r ≡ true → Failed ExpectedIdentifier at ≡ name s at
 unfolding name
-name_none {s} {at} e l n = ap (λ (t : Bool). name_by t (drop at.offset s) at) (sym (sym l ∙ not_true _ n) ∙ ap is_letter e.is)
+name_none {s} {at} e l n = ap (λ (t : Bool). name_by t (drop at.offset s) at) (sym (sym l ∙ not-true _ n) ∙ ap is_letter e.is)
 
 -- ---- bytes as one number
 

@@ -2,7 +2,7 @@
 -- turn of it looks at. Assumes nothing.
 use Rattle.std.specs.Prelude.{◌≡◌, refl, Bool, true, false, not, [], ◌∷◌, ℕ, zero, suc, ◌+◌, ◌≤◌, ◌<◌, ltb, length, get_or, drop}
 use Rattle.std.proofs.Common.{sym, ap, subst, ◌∙◌, arith, drop_of_length-le, length-drop, drop-cons, drop-drop, ltb-true, ltb-false}
-use Rattle.std.proofs.lemmas.Bool.{not_true, not_false}
+use Rattle.std.proofs.lemmas.Bool.{not-true, not-false}
 use Rattle.characters.specs.Text.{Text, byte_at}
 use Rattle.characters.specs.PlaceLaws.{get_d_any}
 use Rattle.characters.specs.Counts.{count_of, end_of}
@@ -53,7 +53,7 @@ module _ (f : ℕ → Bool) (s : Text) where
   -- by what a test of the byte answered
   pub run_on : {from i : ℕ} {r : Bool} (j : ℕ) → In from i → r ≡ f (get_or s i 0) → not r ≡ false → j ≡ i + 1 → i < length s → In from j
   run_on {from} {i} j v t n e h =
-      let a : count_of f (drop i s) ≡ suc (count_of f (drop (suc i) s)) = ap (count_of f) (drop-cons s i 0 h) ∙ count_yes f (get_or s i 0) (drop (suc i) s) (sym t ∙ not_false _ n) in
+      let a : count_of f (drop i s) ≡ suc (count_of f (drop (suc i) s)) = ap (count_of f) (drop-cons s i 0 h) ∙ count_yes f (get_or s i 0) (drop (suc i) s) (sym t ∙ not-false _ n) in
       let b : j ≡ suc i = omega arith in
       let w = v.same in
       let g : from ≤ i = v.begun in
@@ -66,7 +66,7 @@ module _ (f : ℕ → Bool) (s : Text) where
 
   pub run_ends : {from i : ℕ} {r : Bool} (j : ℕ) → In from i → r ≡ f (get_or s i 0) → not r ≡ true → j ≡ i → i < length s → j ≡ end_of f s from
   run_ends {from} {i} j v t n e h =
-      let a : count_of f (drop i s) ≡ 0 = ap (count_of f) (drop-cons s i 0 h) ∙ count_no f (get_or s i 0) (drop (suc i) s) (sym t ∙ not_true _ n) in
+      let a : count_of f (drop i s) ≡ 0 = ap (count_of f) (drop-cons s i 0 h) ∙ count_no f (get_or s i 0) (drop (suc i) s) (sym t ∙ not-true _ n) in
       let w = v.same in
       omega arith
 

@@ -1,4 +1,6 @@
 // The characters of a text: places, UTF-8, blanks, names, tokens. Nothing here knows the grammar.
+#![tactic(auto)]
+
 pub mod blanks;
 pub mod eights;
 pub mod names;

@@ -3,7 +3,7 @@ ghost use Rattle.std.specs.Prelude.{◌≡◌, ◌+◌, ◌<◌, ◌≤◌, ◌^
 ghost use Rattle.characters.specs.Text.{ByteOf, Stands, line_on, next, on_by, past, start};
 
 // A place: the bytes before it, and its line and column, which count characters from 1.
-#[derive(Drop)]
+#[derive(Clone, Copy)]
 pub struct Place {
     pub offset: u32,
     pub line: u32,
@@ -11,7 +11,7 @@ pub struct Place {
 }
 
 // A span of a text: the offset of its first byte, and the offset after its last.
-#[derive(Drop)]
+#[derive(Clone, Copy)]
 pub struct Span {
     pub from: u32,
     pub to: u32,

@@ -9,7 +9,7 @@ use crate::place::{Place, byte};
 use crate::refusal::Refusal;
 
 // What is looked for may be there: a token at `here` with the place after it, or the place where it is not, or a refusal.
-#[derive(Drop)]
+#[derive(Clone, Copy)]
 pub enum Look {
     Found { here: Place, next: Place },
     Missing { here: Place },
@@ -17,7 +17,7 @@ pub enum Look {
 }
 
 // What has to be there: a token at `here` with the place after it, or a refusal.
-#[derive(Drop)]
+#[derive(Clone, Copy)]
 pub enum Must {
     Taken { here: Place, next: Place },
     Failed { refusal: Refusal, at: Place },

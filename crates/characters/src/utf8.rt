@@ -8,7 +8,7 @@ use crate::eights::ascii_end;
 use crate::place::Place;
 
 // What a lead byte asks for: the bytes of its character, and the range of the second. No bytes: no character has this lead.
-#[derive(Drop)]
+#[derive(Clone, Copy)]
 pub struct Lead(pub usize, pub u8, pub u8);
 
 // The RFC's table, row by row, by the lead byte.

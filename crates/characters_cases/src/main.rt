@@ -1,6 +1,8 @@
 // Replays cases of the character layer. Standard input is a list of cases (crate `cases`), and each case is answered by
 // one line. oracle/cases.py makes the list and, from the engine's reader and Python's UTF-8 decoder, what must be
 // written.
+#![tactic(auto)]
+
 ghost use Rattle.std.specs.Prelude.{◌<◌, ◌^◌, length};
 
 use cases::{Case, say};

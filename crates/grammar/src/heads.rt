@@ -11,7 +11,7 @@ use characters::refusal::Refusal;
 use characters::tokens::{Look, Must, sign, spelled};
 
 // What a statement begins with: a keyword or `{`, with its place and the place after it, or an expression or assignment.
-#[derive(Drop)]
+#[derive(Clone, Copy)]
 pub enum StatementHead {
     Return { here: Place, next: Place },
     Break { here: Place, next: Place },
@@ -29,7 +29,7 @@ pub enum StatementHead {
 }
 
 // What an expression or assignment statement begins with: `++` or `--` as an operator's number, with the target's place, or an expression.
-#[derive(Drop)]
+#[derive(Clone, Copy)]
 pub enum StepHead {
     Step { op: u32, next: Place },
     Other,
@@ -37,28 +37,28 @@ pub enum StepHead {
 }
 
 // What follows the expression of a statement: an assignment sign, with its operator's number or 0 and the place after it, or none.
-#[derive(Drop)]
+#[derive(Clone, Copy)]
 pub enum Assignment {
     Sign { op: u32, next: Place },
     Absent,
 }
 
 // What follows `let`, up to its `=`: 1 with `var`, else 0; the name as a span; the place after the `=`.
-#[derive(Drop)]
+#[derive(Clone, Copy)]
 pub enum LetHead {
     Named { mark: u32, span: u32, next: Place },
     Wrong { refusal: Refusal, at: Place },
 }
 
 // What follows the name of a class, up to its `{`: the parent's name as a span or 0, and the place after the `{`.
-#[derive(Drop)]
+#[derive(Clone, Copy)]
 pub enum ClassHead {
     Opened { parent: u32, next: Place },
     Wrong { refusal: Refusal, at: Place },
 }
 
 // What an item of the unit begins with: nothing, at the end of the text; `class`, with its place and the place after it; a statement.
-#[derive(Drop)]
+#[derive(Clone, Copy)]
 pub enum ItemHead {
     End { here: Place },
     Class { here: Place, next: Place },

@@ -15,7 +15,7 @@ use records::kind::Kind;
 use records::words::pack;
 
 // What an operand begins with: a prefix sign and the place after it, or no sign.
-#[derive(Drop)]
+#[derive(Clone, Copy)]
 pub enum Prefix {
     Sign { sign: u32, here: Place, next: Place },
     Other { here: Place },
@@ -23,7 +23,7 @@ pub enum Prefix {
 }
 
 // An atom: the kind and the value of its one record, or what opens a longer one; with the place after it.
-#[derive(Drop)]
+#[derive(Clone, Copy)]
 pub enum Atom {
     Leaf { kind: Kind, value: u64, next: Place },
     Paren { next: Place },
@@ -34,7 +34,7 @@ pub enum Atom {
 }
 
 // What follows a base: a suffix, or nothing more.
-#[derive(Drop)]
+#[derive(Clone, Copy)]
 pub enum Postfix {
     More { suffix: Suffix },
     Rest { here: Place },
@@ -42,7 +42,7 @@ pub enum Postfix {
 }
 
 // A call, an index, or a member's or class's name as a span; with the place of its sign and the place after it.
-#[derive(Drop)]
+#[derive(Clone, Copy)]
 pub enum Suffix {
     Call { here: Place, next: Place },
     Index { here: Place, next: Place },
@@ -51,7 +51,7 @@ pub enum Suffix {
 }
 
 // What follows an operand of a chain.
-#[derive(Drop)]
+#[derive(Clone, Copy)]
 pub enum Link {
     Choice { next: Place },
     Operator { op: u32, next: Place },

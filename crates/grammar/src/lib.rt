@@ -1,4 +1,6 @@
 // The grammar of Plush: what stands at a place, and the rows that its rules make.
+#![tactic(auto)]
+
 pub mod assignments;
 pub mod atoms;
 pub mod declarations;

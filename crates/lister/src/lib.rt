@@ -1,4 +1,6 @@
 // Writes the listing of an answer to standard output, line by line.
+#![tactic(auto)]
+
 ghost use Rattle.std.specs.Prelude.{◌≤◌, length};
 
 use listing::lines::{last, line};

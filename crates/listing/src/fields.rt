@@ -12,7 +12,7 @@ use literals::strings::part;
 use records::words::{unpack, whole};
 
 // How a field prints.
-#[derive(Drop)]
+#[derive(Clone, Copy)]
 pub enum Form {
     // Not at all.
     Hidden,

@@ -7,7 +7,7 @@ use native.Mathlib.Omega.{arith}
 use lib.Dec.{leb, ltb, eqb}
 use lib.ListN.{length, take, drop, get_or}
 use lib.Seq.{drop-cons}
-use borrow.Author.Tests.{leb-true, le-leb, lt-leb, lt-ltb, le-ltb, eq-eqb, ne_eqb, not_true, not_false}
+use borrow.Author.Tests.{leb-true, le-leb, lt-leb, lt-ltb, le-ltb, eq-eqb, ne_eqb, not-true, not-false}
 use Rattle.characters.specs.Text.{Text, byte_at, ByteOf}
 use Rattle.characters.specs.PlaceLaws.{get_d_any, in_text, at_end}
 use Rattle.characters.specs.Counts.{end_of}

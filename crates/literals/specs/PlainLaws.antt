@@ -6,7 +6,7 @@ use Rattle.std.proofs.Math.Bool.{true, false, and-eq-true_iff}
 use native.Mathlib.Omega.{arith}
 use Rattle.std.proofs.Math.Nat.{pow-zero, pow-succ', pow-le-pow_right}
 use Rattle.std.proofs.Math.Dec.{eqb}
-use Rattle.std.proofs.lemmas.Bool.{eqb-false, not_true, not_false}
+use Rattle.std.proofs.lemmas.Bool.{eqb-false, not-true, not-false}
 use Rattle.characters.specs.declared.place.Place.{Place}
 use Rattle.characters.specs.declared.refusal.Refusal.TheVariants.{ExpectedDigit}
 use Rattle.characters.specs.declared.tokens.Must.TheVariants.{Taken}
@@ -215,7 +215,7 @@ is_int_lem s o {e} f n = go (is_int s o (end_of is_digit s o)) refl
         let m : x ≤ o + 18 = leb-true x (o + 18) b.1 in
         let i = (run_bytes is_digit s o o (omega arith) l).0 in
         let j = end_inside is_digit s o (omega arith) in
-        record { ends = w; some = omega arith; few = omega arith; inside = omega arith; alone = ap (λ (k : ℕ). goes_on (byte_at s k)) w ∙ not_true _ a.1 }
+        record { ends = w; some = omega arith; few = omega arith; inside = omega arith; alone = ap (λ (k : ℕ). goes_on (byte_at s k)) w ∙ not-true _ a.1 }
 
 pub int_few : {s : Text} {o e : ℕ} → IsInt s o e → Few s o e
 int_few v = let l = v.some in let z = v.ends in record { forward = omega arith; few = v.few; digits = omega arith }
@@ -284,7 +284,7 @@ is_float_lem s o {e} f n = go (is_float s o d x) refl
           ends = w;
           some = omega arith;
           inside = omega arith;
-          alone = ap (λ (k : ℕ). goes_on (byte_at s k)) w ∙ not_true _ a.1;
+          alone = ap (λ (k : ℕ). goes_on (byte_at s k)) w ∙ not-true _ a.1;
         }
 
 module _ (s : Text) (p : Place) (d e : ℕ) (v : IsFloat s p.offset d e) where
@@ -355,7 +355,7 @@ plain_is q b e =
     let x = (and-eq-true_iff (is_itself b) (not (eqb b q))).0 e in
     let y = (and-eq-true_iff (leb 32 b && leb b 126) (not (eqb b 92))).0 x.0 in
     let z = (and-eq-true_iff (leb 32 b) (leb b 126)).0 y.0 in
-    (leb-true 32 b z.0, leb-true b 126 z.1, not_true _ y.1, not_true _ x.1)
+    (leb-true 32 b z.0, leb-true b 126 z.1, not-true _ y.1, not-true _ x.1)
 
 -- each of them is a character
 scan_plain : (s : Text) (at : Place) (q : ℕ) (l : Text) (p : Place) → scan s at q 0 l p ≡ scan s at q 0 (drop (count_of (is_plain q) l) l) (on_by (count_of (is_plain q) l) p)

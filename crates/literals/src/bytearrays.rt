@@ -10,7 +10,7 @@ use characters::refusal::Refusal;
 use characters::tokens::Must;
 
 // What is being read.
-#[derive(Drop)]
+#[derive(Clone, Copy)]
 pub enum Mode {
     // Between runs.
     Between,
@@ -23,7 +23,7 @@ pub enum Mode {
 }
 
 // What the text at a place is: a byte, the opening of a run, the closing `]`, or a refusal.
-#[derive(Drop)]
+#[derive(Clone, Copy)]
 pub enum Seen {
     Byte { value: u32, mode: Mode, next: Place },
     Opened { mode: Mode, next: Place },

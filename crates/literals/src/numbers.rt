@@ -21,7 +21,7 @@ use characters::place::{Place, byte};
 use characters::refusal::Refusal;
 
 // A number literal: an integer, the span of a float, or the refusal.
-#[derive(Drop)]
+#[derive(Clone, Copy)]
 pub enum Numeral {
     Int { value: i64, next: Place },
     Float { next: Place },
@@ -29,7 +29,7 @@ pub enum Numeral {
 }
 
 // A run of digits: its value, held at 2^63 if it is larger, and the place after it; or the refusal.
-#[derive(Drop)]
+#[derive(Clone, Copy)]
 pub enum Run {
     Digits { value: u64, next: Place },
     Broken { refusal: Refusal, at: Place },

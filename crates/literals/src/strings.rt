@@ -12,7 +12,7 @@ use characters::tokens::Must;
 use characters::utf8::{char_at, sequence};
 
 // What follows a `\`: a character and the bytes that spell it, or how far it is read before it is refused.
-#[derive(Drop)]
+#[derive(Clone, Copy)]
 pub enum Escaped {
     Means { value: u32, width: u32 },
     // After so many bytes.
@@ -220,7 +220,7 @@ pub fn string(text: &[u8], at: Place) -> Must
 }
 
 // The next character of what a string spells, and the offset after it; or its end.
-#[derive(Drop)]
+#[derive(Clone, Copy)]
 pub enum Spelled {
     End,
     Char { value: u32, next: u32 },

@@ -1,6 +1,8 @@
 // Replays cases of the literal layer. Standard input is a list of cases (crate `cases`), each a text `x = ..` with a
 // literal behind signs or opening brackets. One line says what the literal is: its kind, place, value and the place
 // after it, or the refusal. oracle/cases.py makes the list and, from the engine's reader, what must be written.
+#![tactic(auto)]
+
 ghost use Rattle.std.specs.Prelude.{◌≡◌, true, ◌<◌, ◌^◌, length};
 ghost use Rattle.characters.specs.Text.{Stands};
 

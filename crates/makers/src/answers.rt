@@ -9,7 +9,7 @@ use reading::answer::Got;
 use reading::tally::Tally;
 
 // A list, read up to `at`: its last item or 0, and how many items there are.
-#[derive(Drop)]
+#[derive(Clone, Copy)]
 pub enum Items {
     Read {
         at: Place,
@@ -25,7 +25,7 @@ pub enum Items {
 }
 
 // A part that may be left out, read up to `at`: its record, or 0.
-#[derive(Drop)]
+#[derive(Clone, Copy)]
 pub enum Part {
     Read {
         at: Place,

@@ -11,21 +11,21 @@ use records::kind::Kind;
 use records::nodes::make_like;
 
 // An operator that waits for its right side: its number, and its left side's record, whose position the binary takes.
-#[derive(Drop)]
+#[derive(Clone, Copy)]
 pub struct Pends {
     pub op: u16,
     pub left: u16,
 }
 
 // The first `len` places count.
-#[derive(Drop)]
+#[derive(Clone, Copy)]
 pub struct Chain {
     pub waiting: [Pends; 10],
     pub len: u32,
 }
 
 // How many operators are left, the oldest ones, and the answer; none are left where it is refused.
-#[derive(Drop)]
+#[derive(Clone, Copy)]
 pub struct Reduced {
     pub len: u32,
     pub got: Got,

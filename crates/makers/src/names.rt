@@ -27,7 +27,7 @@ use records::words::{pack, unpack};
 
 // The lists whose names are compared: the keys of a dictionary, the parameters of a function, the methods of a class, the functions of
 // the unit and its classes.
-#[derive(Drop)]
+#[derive(Clone, Copy)]
 pub enum Naming {
     Keys,
     Parameters,
@@ -37,7 +37,7 @@ pub enum Naming {
 }
 
 // What an item of such a list holds: a name, or nothing that is compared.
-#[derive(Drop)]
+#[derive(Clone, Copy)]
 pub enum Held {
     Named { name: Span },
     Nothing,

@@ -1,5 +1,7 @@
 // Lists a Plush script: reads standard input as one unit, and writes its records, one a line, and the last line. An error while reading or
 // writing is said on standard error. A program of the kit has no exit status of its own; the launcher `plushlist` gives one.
+#![tactic(auto)]
+
 use unit::entries::read;
 
 fn main() {

@@ -5,7 +5,7 @@ use characters::place::Place;
 use characters::refusal::Refusal;
 
 // Read up to `at`, with a node; or refused at `at`. Either with the tally reached.
-#[derive(Drop)]
+#[derive(Clone, Copy)]
 pub enum Out {
     Read {
         at: Place,
@@ -21,7 +21,7 @@ pub enum Out {
 
 // What a reader of a unit answers: read up to `at`, or refused there, with the tally reached. No node crosses a call. What was read is
 // the last record made: its number is the count of records, and the pool holds the rest.
-#[derive(Drop)]
+#[derive(Clone, Copy)]
 pub enum Got {
     Read {
         at: Place,
@@ -35,7 +35,7 @@ pub enum Got {
 }
 
 // The number (0: accepted, else the refusal's), the place, and both counts.
-#[derive(Drop)]
+#[derive(Clone, Copy)]
 pub struct Answer {
     pub number: u32,
     pub line: u32,

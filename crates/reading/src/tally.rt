@@ -3,7 +3,7 @@ ghost use Rattle.std.specs.Prelude.{◌≡◌, ◌^◌, ◌-◌, ◌<◌};
 ghost use Rattle.reading.specs.Events.{start, with_id, with_record};
 
 // Records made, comparisons made, and ids given out.
-#[derive(Drop)]
+#[derive(Clone, Copy)]
 pub struct Tally {
     pub records: u32,
     pub comparisons: u32,

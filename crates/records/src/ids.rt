@@ -4,11 +4,11 @@ ghost use Rattle.std.specs.Prelude.{◌≡◌, ◌+◌, ◌-◌, ◌^◌, ◌<�
 use reading::tally::Tally;
 
 // The id of a function.
-#[derive(Drop)]
+#[derive(Clone, Copy)]
 pub struct FunId(u32);
 
 // The id of a class.
-#[derive(Drop)]
+#[derive(Clone, Copy)]
 pub struct ClassId(u32);
 
 impl FunId {

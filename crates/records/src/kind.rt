@@ -4,7 +4,7 @@ ghost use Rattle.records.specs.Kinds.{number_of, kind_of};
 
 // Each kind, by the listing's name; the six last are all listed as `item`: an expression, a parameter's name, an expression with a
 // dictionary key, a statement with a global number, a statement without one, and a method's function.
-#[derive(Drop)]
+#[derive(Clone, Copy)]
 pub enum Kind {
     True,
     False,
@@ -47,7 +47,7 @@ pub enum Kind {
 }
 
 // What a number stands for.
-#[derive(Drop)]
+#[derive(Clone, Copy)]
 pub enum KindAt {
     Known { kind: Kind },
     Unknown,

@@ -3,7 +3,7 @@ use crate::kind::Kind;
 use characters::place::Place;
 
 // Its kind, its position and its four fields. specs/Kinds.antt says what each field means; one that a kind doesn't use is 0.
-#[derive(Drop)]
+#[derive(Clone, Copy)]
 pub struct Row {
     pub kind: Kind,
     pub position: Place,
@@ -14,7 +14,7 @@ pub struct Row {
 }
 
 // What stands in the pool under a number.
-#[derive(Drop)]
+#[derive(Clone, Copy)]
 pub enum RowAt {
     Here { row: Row },
     Nothing,

@@ -25,14 +25,14 @@ use records::nodes::{held_of, kind_of, make, position_of};
 use records::words::unpack;
 
 // An item that was read or refused, and the next global number.
-#[derive(Drop)]
+#[derive(Clone, Copy)]
 pub struct Step {
     pub got: Got,
     pub globals: u32,
 }
 
 // What a statement of the unit declares: a function with this name, a constant, or nothing that is counted or compared.
-#[derive(Drop)]
+#[derive(Clone, Copy)]
 pub enum Role {
     Function { name: Span },
     Constant,

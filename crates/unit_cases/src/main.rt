@@ -1,6 +1,8 @@
 // Replays cases of whole units. Standard input is a list of cases (crate `cases`), each the text of a unit; each one's listing is written
 // as `plushlist` writes it. A case's letter says which call is made. oracle/units.py makes the list and, from the engine's reader and the
 // second reading, what must be written.
+#![tactic(auto)]
+
 use cases::{Case, say};
 use reading::answer::Answer;
 use unit::entries::{read, read_short};

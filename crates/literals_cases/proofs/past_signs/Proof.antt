@@ -2,7 +2,7 @@
 use Prim.Native.Nat.{◌-◌}
 use native.Mathlib.Omega.{arith}
 use lib.ListN.{length}
-use borrow.Author.Tests.{not_false}
+use borrow.Author.Tests.{not-false}
 use Rattle.characters.specs.Text.{Stands}
 use Rattle.characters.specs.PlaceLaws.{room}
 use Rattle.cases.specs.WalkLaws.{less}
@@ -33,10 +33,10 @@ on-requires : tie.Need-on-requires invariant-loop decreases-loop
 on-requires c κs = let r = room c.before.before.before.loop.invariant in (omega (arith, r.0), omega (arith, r.2))
 
 loop-less : tie.Need-loop-smaller invariant-loop decreases-loop
-loop-less c = less (over c.before.before.before.before.loop.invariant c.before.before.before.byte.ensures (c.before.before.is-sign.ensures (not_false _ c.before.if1.false)) c.on.ensures)
+loop-less c = less (over c.before.before.before.before.loop.invariant c.before.before.before.byte.ensures (c.before.before.is-sign.ensures (not-false _ c.before.if1.false)) c.on.ensures)
 
 loop-again : tie.Need-loop-preserved invariant-loop decreases-loop
-loop-again c = (over c.before.before.before.before.loop.invariant c.before.before.before.byte.ensures (c.before.before.is-sign.ensures (not_false _ c.before.if1.false)) c.on.ensures).stands
+loop-again c = (over c.before.before.before.before.loop.invariant c.before.before.before.byte.ensures (c.before.before.is-sign.ensures (not-false _ c.before.if1.false)) c.on.ensures).stands
 
 pub past-signs-spec : {M : Type 1} → statement M
 past-signs-spec =

@@ -4,7 +4,7 @@ use Rattle.std.specs.Prelude.{◌≡◌, Bool, true, false, ◌&&◌, ◌||◌, 
 use Rattle.std.proofs.Math.Path.{refl, ap, subst⁻¹}
 use Rattle.std.proofs.Common.{sym, subst, ◌∙◌, inl, inr, ⊎_elim, arith, ne_eqb, eqb-true, le-ltb}
 use mathlib.Core.List.{[], ◌∷◌}
-use Rattle.std.proofs.lemmas.Bool.{eqb-false, not_true}
+use Rattle.std.proofs.lemmas.Bool.{eqb-false, not-true}
 use Rattle.characters.specs.declared.place.Place.{Place}
 use Rattle.characters.specs.declared.refusal.Refusal.TheVariants.{PostfixIncrement, IncrementAsExpression}
 use Rattle.characters.specs.declared.tokens.Must.{Must}
@@ -285,6 +285,6 @@ over_assign {s} {p} {assigning} {b} {c} g e a f =
           (link_sign s p
           ∙ ap (λ (x : ℕ). link_at (sign_of x (byte_at s (p.offset + 1)) (byte_at s (p.offset + 2))) p) (sym g.is ∙ e)
           ∙ ap (λ (x : ℕ). link_at (sign_of 61 x (byte_at s (p.offset + 2))) p) (sym f.is)
-          ∙ ap (λ (x : ℕ). link_at x p) (assign_sign c (byte_at s (p.offset + 2)) (eqb-false c 61 (not_true _ z))))
+          ∙ ap (λ (x : ℕ). link_at x p) (assign_sign c (byte_at s (p.offset + 2)) (eqb-false c 61 (not-true _ z))))
           a;
     }

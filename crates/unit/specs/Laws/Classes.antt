@@ -4,7 +4,7 @@ use Rattle.std.proofs.Math.Path.{refl, sym, subst, subst⁻¹}
 use Rattle.std.proofs.Common.{ap, ◌∙◌, arith, eqb-true, eq-eqb, ne_eqb}
 use mathlib.Core.List.{List, [], ◌∷◌}
 use Rattle.std.proofs.Math.ListN.{length-take, length-drop}
-use Rattle.std.proofs.lemmas.Bool.{not_true, not_false, eqb-false}
+use Rattle.std.proofs.lemmas.Bool.{not-true, not-false, eqb-false}
 use Rattle.characters.specs.declared.place.Place.{Place}
 use Rattle.characters.specs.declared.place.Span.{Span}
 use Rattle.characters.specs.declared.refusal.Refusal.{Refusal}
@@ -85,10 +85,10 @@ module _ (s : Text) (h q : Place) where
 
 -- and its function has no parameter
 pub bare_other : {a b : Bool} → a ≡ b → not a ≡ true → (k : Bool) → false ≡ (b && k)
-bare_other {a} {b} e f k = ap (λ (x : Bool). x && k) (sym (not_true a f) ∙ e)
+bare_other {a} {b} e f k = ap (λ (x : Bool). x && k) (sym (not-true a f) ∙ e)
 
 pub bare_is : {a b : Bool} {n m : ℕ} → a ≡ b → not a ≡ false → n ≡ m → eqb n 0 ≡ (b && eqb m 0)
-bare_is {a} {b} {n} {m} e f g = ap (λ (x : ℕ). eqb x 0) g ∙ ap (λ (x : Bool). x && eqb m 0) (sym (not_false a f) ∙ e)
+bare_is {a} {b} {n} {m} e f g = ap (λ (x : ℕ). eqb x 0) g ∙ ap (λ (x : Bool). x && eqb m 0) (sym (not-false a f) ∙ e)
 
 -- ---- a method
 

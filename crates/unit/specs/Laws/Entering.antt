@@ -2,7 +2,7 @@
 use Rattle.std.specs.Prelude.{◌≡◌, refl, Bool, true, false, not, List, [], ℕ, ◌≤◌, ◌<◌, length}
 use Rattle.std.proofs.Common.{sym, ap, subst, ◌∙◌, arith, le-leb}
 use Rattle.std.proofs.Math.Path.{subst⁻¹}
-use Rattle.std.proofs.lemmas.Bool.{not_true, not_false, lt-leb}
+use Rattle.std.proofs.lemmas.Bool.{not-true, not-false, lt-leb}
 use Rattle.characters.specs.declared.place.Place.{Place}
 use Rattle.characters.specs.declared.refusal.Refusal.{Refusal}
 use Rattle.characters.specs.declared.refusal.Refusal.TheVariants.{TooLong, BadNesting, NotUtf8}
@@ -77,7 +77,7 @@ module _ (s A : List ℕ) (nest comps : ℕ) (file : Bool) where
           → Enters s nest comps file a A A
       enters_unsound n f e =
           enters (e ∙ ap (λ (p : Place). answer_from (out_of [] (Refused NotUtf8 p start))) f)
-          (call_unsound (le-leb (length s) 65535 l) low high (sym u ∙ not_true b n))
+          (call_unsound (le-leb (length s) 65535 l) low high (sym u ∙ not-true b n))
 
       -- the reading
       pub enters_read : {cap : ℕ} {at : Place} {t : Tally} {r : Got} {a : Answer} {B : List ℕ} → not b ≡ false → cap ≡ cap_of (length A) → at ≡ start_of file s
@@ -92,7 +92,7 @@ module _ (s A : List ℕ) (nest comps : ℕ) (file : Bool) where
           subst (λ (u : Tally). Reads s cap comps nest (start_of file s) u (unit_p s (start_of file s)) r A B) i d'
           in
           enters (e ∙ told_alike [] B r)
-          (call_read c (le-leb (length s) 65535 l) low high (sym u ∙ not_false b n) d''.does)
+          (call_read c (le-leb (length s) 65535 l) low high (sym u ∙ not-false b n) d''.does)
 
 -- what the unit is read with
 pub enters_ready : {s A : List ℕ} {cap : ℕ} {at : Place} {t : Tally} (file : Bool) → length s ≤ 65535 → cap ≡ cap_of (length A) → at ≡ start_of file s

@@ -3,7 +3,7 @@ use mathlib.Core.Path.{refl, sym}
 use Prim.Native.Nat.{◌-◌}
 use lib.ListN.{length}
 use native.Mathlib.Omega.{arith}
-use borrow.Author.Tests.{lt-ltb, le-ltb, not_false}
+use borrow.Author.Tests.{lt-ltb, le-ltb, not-false}
 use Rattle.characters.specs.Text.{is_ascii}
 use Rattle.characters.specs.CountLaws.{In, run_starts, run_on, run_many, run_ends, run_out}
 use borrow.Author.Rules.{rules}
@@ -41,7 +41,7 @@ loop-less : tie.Need-loop-smaller invariant-loop decreases-loop invariant-loop2 
 loop-less c = search rules
 
 loop-again : tie.Need-loop-preserved invariant-loop decreases-loop invariant-loop2 decreases-loop2
-loop-again c = run_many is_ascii c.before.before.before.before.before.args.text.now 8 c.before.before.before.loop.invariant (omega arith) (c.before.low_eight.ensures (not_false _ c.if1.false)).each
+loop-again c = run_many is_ascii c.before.before.before.before.before.args.text.now 8 c.before.before.before.loop.invariant (omega arith) (c.before.low_eight.ensures (not-false _ c.if1.false)).each
 
 loop2-holds : tie.Need-loop2-init invariant-loop decreases-loop invariant-loop2 decreases-loop2
 loop2-holds c = c.before.loop.invariant

@@ -4,7 +4,7 @@ use mathlib.Core.Logic.{⊎_elim}
 use Prim.Native.Nat.{◌-◌}
 use lib.ListN.{length, get_or}
 use native.Mathlib.Omega.{arith}
-use borrow.Author.Tests.{not_false}
+use borrow.Author.Tests.{not-false}
 use Rattle.characters.specs.Names.{is_name_byte}
 use Rattle.characters.specs.NameLaws.{small_is_name}
 use Rattle.characters.specs.CountLaws.{In, run_starts, run_on, run_ends, run_out}
@@ -50,7 +50,7 @@ loop-less : tie.Need-loop-smaller invariant-loop decreases-loop
 loop-less c = search rules
 
 loop-again : tie.Need-loop-preserved invariant-loop decreases-loop
-loop-again c = ⊎_elim (λ w. run_on is_name_byte c.before.before.before.before.before.before.args.text.now _ c.before.before.before.before.loop.invariant w.1.ensures w.2.left refl c.before.before.before.loop-test.true) (λ w. run_on is_name_byte c.before.before.before.before.before.before.args.text.now _ c.before.before.before.before.loop.invariant (sym (small_is_name (get_or c.before.before.before.before.before.before.args.text.now c.before.before.before.before.loop.i 0) (sym c.before.is-small.ensures ∙ not_false _ w.left))) refl refl c.before.before.before.loop-test.true) c.if1.branch
+loop-again c = ⊎_elim (λ w. run_on is_name_byte c.before.before.before.before.before.before.args.text.now _ c.before.before.before.before.loop.invariant w.1.ensures w.2.left refl c.before.before.before.loop-test.true) (λ w. run_on is_name_byte c.before.before.before.before.before.before.args.text.now _ c.before.before.before.before.loop.invariant (sym (small_is_name (get_or c.before.before.before.before.before.before.args.text.now c.before.before.before.before.loop.i 0) (sym c.before.is-small.ensures ∙ not-false _ w.left))) refl refl c.before.before.before.loop-test.true) c.if1.branch
 
 cast-result-2 : tie.Need-overflow-cast-result-2 invariant-loop decreases-loop
 cast-result-2 c = search rules

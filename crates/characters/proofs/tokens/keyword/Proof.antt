@@ -1,5 +1,5 @@
 use native.Mathlib.Omega.{arith}
-use borrow.Author.Tests.{not_true, not_false}
+use borrow.Author.Tests.{not-true, not-false}
 use Rattle.characters.proofs.Looking.{passed, fits_after, keyword_missing, keyword_goes_on, keyword_found, keyword_halts}
 -- `keyword` skips the blanks, tests, looks at what follows and steps. Assumes nothing.
 use borrow.Author.Rules.{rules}
@@ -26,13 +26,13 @@ spelled-requires : tie.Need-spelled-requires
 spelled-requires c κs = (passed c.before.before.before.before.before.before.requires c.before.before.before.skip.ensures c.before.blanks2.given.1).stands.inside
 
 returns : tie.Need-returns
-returns c = keyword_missing c.before.before.before.before.before.before.before.before.args.w.now c.before.before.before.before.before.before.before.before.requires c.before.before.before.before.before.skip.ensures c.before.before.before.blanks2.given.1 c.before.spelled.ensures (not_true _ c.if1.true)
+returns c = keyword_missing c.before.before.before.before.before.before.before.before.args.w.now c.before.before.before.before.before.before.before.before.requires c.before.before.before.before.before.skip.ensures c.before.before.before.blanks2.given.1 c.before.spelled.ensures (not-true _ c.if1.true)
 
 cast-n : tie.Need-overflow-cast-n
-cast-n c = let h = fits_after c.before.before.before.before.before.before.before.before.args.w.now c.before.before.before.before.before.before.before.before.requires c.before.before.before.before.before.skip.ensures c.before.before.before.blanks2.given.1 c.before.spelled.ensures (not_false _ c.if1.false) in let s = c.before.before.before.before.before.before.before.before.requires.short in omega arith
+cast-n c = let h = fits_after c.before.before.before.before.before.before.before.before.args.w.now c.before.before.before.before.before.before.before.before.requires c.before.before.before.before.before.skip.ensures c.before.before.before.blanks2.given.1 c.before.spelled.ensures (not-false _ c.if1.false) in let s = c.before.before.before.before.before.before.before.before.requires.short in omega arith
 
 on-requires : tie.Need-on-requires
-on-requires c κs = let h = fits_after c.before.before.before.before.before.before.before.before.args.w.now c.before.before.before.before.before.before.before.before.requires c.before.before.before.before.before.skip.ensures c.before.before.before.blanks2.given.1 c.before.spelled.ensures (not_false _ c.if1.false) in let s = c.before.before.before.before.before.before.before.before.requires.short in let k = (passed c.before.before.before.before.before.before.before.before.requires c.before.before.before.before.before.skip.ensures c.before.before.before.blanks2.given.1).stands.columns in (omega arith, omega arith)
+on-requires c κs = let h = fits_after c.before.before.before.before.before.before.before.before.args.w.now c.before.before.before.before.before.before.before.before.requires c.before.before.before.before.before.skip.ensures c.before.before.before.blanks2.given.1 c.before.spelled.ensures (not-false _ c.if1.false) in let s = c.before.before.before.before.before.before.before.before.requires.short in let k = (passed c.before.before.before.before.before.before.before.before.requires c.before.before.before.before.before.skip.ensures c.before.before.before.blanks2.given.1).stands.columns in (omega arith, omega arith)
 
 byte-requires : tie.Need-byte-requires
 byte-requires c κs = search rules
@@ -41,13 +41,13 @@ is-name-byte-requires : tie.Need-is-name-byte-requires
 is-name-byte-requires c κs = search rules
 
 returns-2 : tie.Need-returns-2
-returns-2 c = keyword_goes_on c.before.before.before.before.before.before.before.before.before.before.before.before.args.w.now c.before.before.before.before.before.before.before.before.before.before.before.before.requires c.before.before.before.before.before.before.before.before.before.skip.ensures c.before.before.before.before.before.before.before.blanks2.given.1 c.before.before.before.before.before.spelled.ensures (not_false _ c.before.before.before.before.if1.false) c.before.before.before.on.ensures c.before.before.byte.ensures c.before.is-name-byte.ensures c.if2.true
+returns-2 c = keyword_goes_on c.before.before.before.before.before.before.before.before.before.before.before.before.args.w.now c.before.before.before.before.before.before.before.before.before.before.before.before.requires c.before.before.before.before.before.before.before.before.before.skip.ensures c.before.before.before.before.before.before.before.blanks2.given.1 c.before.before.before.before.before.spelled.ensures (not-false _ c.before.before.before.before.if1.false) c.before.before.before.on.ensures c.before.before.byte.ensures c.before.is-name-byte.ensures c.if2.true
 
 returns-3 : tie.Need-returns-3
 returns-3 c = keyword_halts _ _ _ _ _ _ c.before.before.before.skip.ensures c.before.blanks.given.1
 
 returns-4 : tie.Need-returns-4
-returns-4 c = keyword_found c.before.before.before.before.before.before.before.before.before.before.before.before.args.w.now c.before.before.before.before.before.before.before.before.before.before.before.before.requires c.before.before.before.before.before.before.before.before.before.skip.ensures c.before.before.before.before.before.before.before.blanks2.given.1 c.before.before.before.before.before.spelled.ensures (not_false _ c.before.before.before.before.if1.false) c.before.before.before.on.ensures c.before.before.byte.ensures c.before.is-name-byte.ensures c.if2.false
+returns-4 c = keyword_found c.before.before.before.before.before.before.before.before.before.before.before.before.args.w.now c.before.before.before.before.before.before.before.before.before.before.before.before.requires c.before.before.before.before.before.before.before.before.before.skip.ensures c.before.before.before.before.before.before.before.blanks2.given.1 c.before.before.before.before.before.spelled.ensures (not-false _ c.before.before.before.before.if1.false) c.before.before.before.on.ensures c.before.before.byte.ensures c.before.is-name-byte.ensures c.if2.false
 
 pub keyword-spec : {M : Type 1} → statement M
 keyword-spec =

@@ -1,7 +1,7 @@
 -- `sign` compares one byte past the blanks, which mostly are spaces. Assumes nothing.
 use mathlib.Core.Path.{refl}
 use native.Mathlib.Omega.{arith}
-use borrow.Author.Tests.{not_true}
+use borrow.Author.Tests.{not-true}
 use Rattle.characters.specs.PlaceLaws.{room}
 use Rattle.characters.specs.BlankLaws.{only_spaces, spaced_stands}
 use Rattle.characters.proofs.Looking.{passed, sign_by, token_halts}
@@ -33,7 +33,7 @@ sign-at-requires : tie.Need-sign-at-requires
 sign-at-requires c κs = let h = room (spaced_stands c.before.before.before.before.before.before.requires c.before.before.before.before.spaces.ensures c.before.before.before.on.ensures) in (omega arith, omega arith)
 
 returns : tie.Need-returns
-returns c = sign_by c.before.before.before.before.before.before.before.requires (only_spaces c.before.before.before.before.before.spaces.ensures c.before.before.before.before.on.ensures c.before.before.before.byte.ensures c.before.before.opens-blank.ensures (not_true _ c.before.if1.true)) refl (omega arith) c.before.before.before.byte.ensures c.sign_at.ensures
+returns c = sign_by c.before.before.before.before.before.before.before.requires (only_spaces c.before.before.before.before.before.spaces.ensures c.before.before.before.before.on.ensures c.before.before.before.byte.ensures c.before.before.opens-blank.ensures (not-true _ c.before.if1.true)) refl (omega arith) c.before.before.before.byte.ensures c.sign_at.ensures
 
 skip-requires : tie.Need-skip-requires
 skip-requires c κs = search rules

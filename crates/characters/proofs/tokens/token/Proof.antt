@@ -1,5 +1,5 @@
 use native.Mathlib.Omega.{arith}
-use borrow.Author.Tests.{not_true, not_false}
+use borrow.Author.Tests.{not-true, not-false}
 use Rattle.characters.specs.PlaceLaws.{room}
 use Rattle.characters.proofs.Looking.{passed, fits_after, token_missing, token_found, token_halts}
 -- `token` skips the blanks, tests and steps. Assumes nothing.
@@ -25,19 +25,19 @@ spelled-requires : tie.Need-spelled-requires
 spelled-requires c κs = (passed c.before.before.before.before.before.before.requires c.before.before.before.skip.ensures c.before.blanks2.given.1).stands.inside
 
 returns : tie.Need-returns
-returns c = token_missing c.before.before.before.before.before.before.before.before.args.w.now c.before.before.before.before.before.before.before.before.requires c.before.before.before.before.before.skip.ensures c.before.before.before.blanks2.given.1 c.before.spelled.ensures (not_true _ c.if1.true)
+returns c = token_missing c.before.before.before.before.before.before.before.before.args.w.now c.before.before.before.before.before.before.before.before.requires c.before.before.before.before.before.skip.ensures c.before.before.before.blanks2.given.1 c.before.spelled.ensures (not-true _ c.if1.true)
 
 cast-n : tie.Need-overflow-cast-n
-cast-n c = let h = fits_after c.before.before.before.before.before.before.before.before.args.w.now c.before.before.before.before.before.before.before.before.requires c.before.before.before.before.before.skip.ensures c.before.before.before.blanks2.given.1 c.before.spelled.ensures (not_false _ c.if1.false) in let s = c.before.before.before.before.before.before.before.before.requires.short in omega arith
+cast-n c = let h = fits_after c.before.before.before.before.before.before.before.before.args.w.now c.before.before.before.before.before.before.before.before.requires c.before.before.before.before.before.skip.ensures c.before.before.before.blanks2.given.1 c.before.spelled.ensures (not-false _ c.if1.false) in let s = c.before.before.before.before.before.before.before.before.requires.short in omega arith
 
 on-requires : tie.Need-on-requires
-on-requires c κs = let h = fits_after c.before.before.before.before.before.before.before.before.args.w.now c.before.before.before.before.before.before.before.before.requires c.before.before.before.before.before.skip.ensures c.before.before.before.blanks2.given.1 c.before.spelled.ensures (not_false _ c.if1.false) in let s = c.before.before.before.before.before.before.before.before.requires.short in let r = room (passed c.before.before.before.before.before.before.before.before.requires c.before.before.before.before.before.skip.ensures c.before.before.before.blanks2.given.1).stands in let k = (passed c.before.before.before.before.before.before.before.before.requires c.before.before.before.before.before.skip.ensures c.before.before.before.blanks2.given.1).stands.columns in (omega arith, omega arith)
+on-requires c κs = let h = fits_after c.before.before.before.before.before.before.before.before.args.w.now c.before.before.before.before.before.before.before.before.requires c.before.before.before.before.before.skip.ensures c.before.before.before.blanks2.given.1 c.before.spelled.ensures (not-false _ c.if1.false) in let s = c.before.before.before.before.before.before.before.before.requires.short in let r = room (passed c.before.before.before.before.before.before.before.before.requires c.before.before.before.before.before.skip.ensures c.before.before.before.blanks2.given.1).stands in let k = (passed c.before.before.before.before.before.before.before.before.requires c.before.before.before.before.before.skip.ensures c.before.before.before.blanks2.given.1).stands.columns in (omega arith, omega arith)
 
 returns-2 : tie.Need-returns-2
 returns-2 c = token_halts _ _ _ _ _ _ c.before.before.before.skip.ensures c.before.blanks.given.1
 
 returns-3 : tie.Need-returns-3
-returns-3 c = token_found c.before.before.before.before.before.before.before.before.before.args.w.now c.before.before.before.before.before.before.before.before.before.requires c.before.before.before.before.before.before.skip.ensures c.before.before.before.before.blanks2.given.1 c.before.before.spelled.ensures (not_false _ c.before.if1.false) c.on.ensures
+returns-3 c = token_found c.before.before.before.before.before.before.before.before.before.args.w.now c.before.before.before.before.before.before.before.before.before.requires c.before.before.before.before.before.before.skip.ensures c.before.before.before.before.blanks2.given.1 c.before.before.spelled.ensures (not-false _ c.before.if1.false) c.on.ensures
 
 pub token-spec : {M : Type 1} → statement M
 token-spec =

@@ -2,7 +2,7 @@
 use mathlib.Core.Path.{sym, ◌∙◌}
 use Prim.Native.Nat.{ℕ}
 use borrow.Author.Rules.{rules}
-use borrow.Author.Tests.{not_true, not_false}
+use borrow.Author.Tests.{not-true, not-false}
 use Rattle.characters.proofs.Utf8Steps.{Passed, follow_narrow, follow_short, second_yes, second_no, other_yes, other_no, all_passed}
 use Rattle.characters.proofs.utf8.follow.Statement.{statement}
 use Rattle.characters.proofs.utf8.follow.Tie as tie
@@ -12,13 +12,13 @@ abbrev Passes : tie.Start → ℕ → Type 0
 Passes z k = Passed z.args.lead z.args.text.now z.args.at k
 
 two : (c : tie.Else3) → Passes c.before.before.before.before.before.before 2
-two c = second_yes c.before.before.before.before.before.before.args.lead c.before.before.before.before.before.before.args.text.now c.before.before.before.before.before.before.args.at (search rules) (search rules) (sym c.before.in_range.ensures ∙ not_false _ c.if3.false)
+two c = second_yes c.before.before.before.before.before.before.args.lead c.before.before.before.before.before.before.args.text.now c.before.before.before.before.before.before.args.at (search rules) (search rules) (sym c.before.in_range.ensures ∙ not-false _ c.if3.false)
 
 three : (c : tie.Else5) → Passes c.before.before.before.before.before.before.before.before.before.before 3
-three c = other_yes c.before.before.before.before.before.before.before.before.before.before.args.lead c.before.before.before.before.before.before.before.before.before.before.args.text.now c.before.before.before.before.before.before.before.before.before.before.args.at 2 (two c.before.before.before.before) (search rules) (search rules) (sym c.before.in-range2.ensures ∙ not_false _ c.if5.false)
+three c = other_yes c.before.before.before.before.before.before.before.before.before.before.args.lead c.before.before.before.before.before.before.before.before.before.before.args.text.now c.before.before.before.before.before.before.before.before.before.before.args.at 2 (two c.before.before.before.before) (search rules) (search rules) (sym c.before.in-range2.ensures ∙ not-false _ c.if5.false)
 
 four : (c : tie.Else7) → Passes c.before.before.before.before.before.before.before.before.before.before.before.before.before.before 4
-four c = other_yes c.before.before.before.before.before.before.before.before.before.before.before.before.before.before.args.lead c.before.before.before.before.before.before.before.before.before.before.before.before.before.before.args.text.now c.before.before.before.before.before.before.before.before.before.before.before.before.before.before.args.at 3 (three c.before.before.before.before) (search rules) (search rules) (sym c.before.in-range3.ensures ∙ not_false _ c.if7.false)
+four c = other_yes c.before.before.before.before.before.before.before.before.before.before.before.before.before.before.args.lead c.before.before.before.before.before.before.before.before.before.before.before.before.before.before.args.text.now c.before.before.before.before.before.before.before.before.before.before.before.before.before.before.args.at 3 (three c.before.before.before.before) (search rules) (search rules) (sym c.before.in-range3.ensures ∙ not-false _ c.if7.false)
 
 returns : tie.Need-returns
 returns c = follow_narrow _ _ c.if1.true
@@ -39,7 +39,7 @@ in-range-requires : tie.Need-in-range-requires
 in-range-requires c κs = search rules
 
 returns-3 : tie.Need-returns-3
-returns-3 c = second_no c.before.before.before.before.before.before.args.lead c.before.before.before.before.before.before.args.text.now c.before.before.before.before.before.before.args.at (search rules) (search rules) (sym c.before.in_range.ensures ∙ not_true _ c.if3.true)
+returns-3 c = second_no c.before.before.before.before.before.before.args.lead c.before.before.before.before.before.before.args.text.now c.before.before.before.before.before.before.args.at (search rules) (search rules) (sym c.before.in_range.ensures ∙ not-true _ c.if3.true)
 
 returns-4 : tie.Need-returns-4
 returns-4 c = all_passed c.before.before.before.before.before.before.before.args.lead c.before.before.before.before.before.before.before.args.text.now c.before.before.before.before.before.before.before.args.at 2 (two c.before) c.if4.true
@@ -54,7 +54,7 @@ in-range-requires-2 : tie.Need-in-range-requires-2
 in-range-requires-2 c κs = search rules
 
 returns-5 : tie.Need-returns-5
-returns-5 c = other_no c.before.before.before.before.before.before.before.before.before.before.args.lead c.before.before.before.before.before.before.before.before.before.before.args.text.now c.before.before.before.before.before.before.before.before.before.before.args.at 2 (two c.before.before.before.before) (search rules) (search rules) (sym c.before.in-range2.ensures ∙ not_true _ c.if5.true)
+returns-5 c = other_no c.before.before.before.before.before.before.before.before.before.before.args.lead c.before.before.before.before.before.before.before.before.before.before.args.text.now c.before.before.before.before.before.before.before.before.before.before.args.at 2 (two c.before.before.before.before) (search rules) (search rules) (sym c.before.in-range2.ensures ∙ not-true _ c.if5.true)
 
 returns-6 : tie.Need-returns-6
 returns-6 c = all_passed c.before.before.before.before.before.before.before.before.before.before.before.args.lead c.before.before.before.before.before.before.before.before.before.before.before.args.text.now c.before.before.before.before.before.before.before.before.before.before.before.args.at 3 (three c.before) c.if6.true
@@ -69,7 +69,7 @@ in-range-requires-3 : tie.Need-in-range-requires-3
 in-range-requires-3 c κs = search rules
 
 returns-7 : tie.Need-returns-7
-returns-7 c = other_no c.before.before.before.before.before.before.before.before.before.before.before.before.before.before.args.lead c.before.before.before.before.before.before.before.before.before.before.before.before.before.before.args.text.now c.before.before.before.before.before.before.before.before.before.before.before.before.before.before.args.at 3 (three c.before.before.before.before) (search rules) (search rules) (sym c.before.in-range3.ensures ∙ not_true _ c.if7.true)
+returns-7 c = other_no c.before.before.before.before.before.before.before.before.before.before.before.before.before.before.args.lead c.before.before.before.before.before.before.before.before.before.before.before.before.before.before.args.text.now c.before.before.before.before.before.before.before.before.before.before.before.before.before.before.args.at 3 (three c.before.before.before.before) (search rules) (search rules) (sym c.before.in-range3.ensures ∙ not-true _ c.if7.true)
 
 returns-8 : tie.Need-returns-8
 returns-8 c = all_passed c.before.before.before.before.before.before.before.before.before.before.before.before.before.before.args.lead c.before.before.before.before.before.before.before.before.before.before.before.before.before.before.args.text.now c.before.before.before.before.before.before.before.before.before.before.before.before.before.before.args.at 4 (four c) (search rules)

@@ -1,7 +1,7 @@
 -- `class_of` compares the keyword only where its first byte may stand. Assumes nothing.
 use mathlib.Core.Path.{refl}
 use native.Mathlib.Omega.{arith}
-use borrow.Author.Tests.{not_true}
+use borrow.Author.Tests.{not-true}
 use Rattle.characters.specs.Text.{ascii}
 use Rattle.characters.specs.PlaceLaws.{room}
 use Rattle.characters.specs.BlankLaws.{only_spaces, spaced_stands}
@@ -37,7 +37,7 @@ opened-requires c κs = spaced_stands c.before.before.before.before.before.befor
 
 returns : tie.Need-returns
 unfolding class_of
-returns c = told (class_by c.before.before.before.before.before.before.before.before.args.text.now) (keyword_missing 101 (ascii "xtends") c.before.before.before.before.before.before.before.before.requires.0 (only_spaces c.before.before.before.before.before.before.spaces.ensures c.before.before.before.before.before.on.ensures c.before.before.before.before.byte.ensures c.before.before.before.opens-blank.ensures (not_true _ c.before.before.if1.true)) c.before.before.before.before.byte.ensures c.before.if2.true) refl c.opened.ensures
+returns c = told (class_by c.before.before.before.before.before.before.before.before.args.text.now) (keyword_missing 101 (ascii "xtends") c.before.before.before.before.before.before.before.before.requires.0 (only_spaces c.before.before.before.before.before.before.spaces.ensures c.before.before.before.before.before.on.ensures c.before.before.before.before.byte.ensures c.before.before.before.opens-blank.ensures (not-true _ c.before.before.if1.true)) c.before.before.before.before.byte.ensures c.before.if2.true) refl c.opened.ensures
 
 slice-aggregate-keyword : tie.Need-slice-aggregate-keyword
 slice-aggregate-keyword c = search rules

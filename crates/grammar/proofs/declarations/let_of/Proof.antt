@@ -1,7 +1,7 @@
 -- `let_of` compares the keyword only where its first byte may stand. Assumes nothing.
 use mathlib.Core.Path.{refl}
 use native.Mathlib.Omega.{arith}
-use borrow.Author.Tests.{not_true}
+use borrow.Author.Tests.{not-true}
 use Rattle.characters.specs.Text.{ascii}
 use Rattle.characters.specs.PlaceLaws.{room}
 use Rattle.characters.specs.BlankLaws.{only_spaces, spaced_stands}
@@ -36,7 +36,7 @@ let-named-requires c κs = (spaced_stands c.before.before.before.before.before.b
 
 returns : tie.Need-returns
 unfolding let_of
-returns c = told (let_by c.before.before.before.before.before.before.before.before.args.text.now) (keyword_missing 118 (ascii "ar") c.before.before.before.before.before.before.before.before.requires.0 (only_spaces c.before.before.before.before.before.before.spaces.ensures c.before.before.before.before.before.on.ensures c.before.before.before.before.byte.ensures c.before.before.before.opens-blank.ensures (not_true _ c.before.before.if1.true)) c.before.before.before.before.byte.ensures c.before.if2.true) refl c.let-named.ensures
+returns c = told (let_by c.before.before.before.before.before.before.before.before.args.text.now) (keyword_missing 118 (ascii "ar") c.before.before.before.before.before.before.before.before.requires.0 (only_spaces c.before.before.before.before.before.before.spaces.ensures c.before.before.before.before.before.on.ensures c.before.before.before.before.byte.ensures c.before.before.before.opens-blank.ensures (not-true _ c.before.before.if1.true)) c.before.before.before.before.byte.ensures c.before.if2.true) refl c.let-named.ensures
 
 slice-aggregate-keyword : tie.Need-slice-aggregate-keyword
 slice-aggregate-keyword c = search rules

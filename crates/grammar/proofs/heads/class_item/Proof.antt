@@ -1,6 +1,6 @@
 -- `class_item` tests the keyword and looks at what follows. Assumes nothing.
 use mathlib.Core.Path.{ap, ◌∙◌}
-use borrow.Author.Tests.{not_true, not_false}
+use borrow.Author.Tests.{not-true, not-false}
 use Rattle.characters.specs.Text.{ascii}
 use Rattle.grammar.specs.declared.heads.ItemHead.TheVariants.{Class}
 use Rattle.grammar.proofs.Heading.{unspelled, parted, class_item}
@@ -21,7 +21,7 @@ spelled-requires : tie.Need-spelled-requires
 spelled-requires c κs = search rules
 
 returns : tie.Need-returns
-returns c = ap (class_item c.before.before.before.before.args.here) (unspelled c.before.before.before.before.args.text.now c.before.before.before.before.args.here (ascii "class") c.before.spelled.ensures (not_true _ c.if1.true))
+returns c = ap (class_item c.before.before.before.before.args.here) (unspelled c.before.before.before.before.args.text.now c.before.before.before.before.args.here (ascii "class") c.before.spelled.ensures (not-true _ c.if1.true))
 
 on-requires : tie.Need-on-requires
 on-requires c κs = search rules
@@ -33,10 +33,10 @@ is-name-byte-requires : tie.Need-is-name-byte-requires
 is-name-byte-requires c κs = search rules
 
 returns-2 : tie.Need-returns-2
-returns-2 c = ap (class_item c.before.before.before.before.before.before.before.before.args.here) (parted c.before.before.before.before.before.before.before.before.args.text.now c.before.before.before.before.before.before.before.before.args.here (ascii "class") c.before.before.before.before.before.spelled.ensures (not_false _ c.before.before.before.before.if1.false) c.before.before.before.on.ensures c.before.before.byte.ensures c.before.is-name-byte.ensures c.if2.true)
+returns-2 c = ap (class_item c.before.before.before.before.before.before.before.before.args.here) (parted c.before.before.before.before.before.before.before.before.args.text.now c.before.before.before.before.before.before.before.before.args.here (ascii "class") c.before.before.before.before.before.spelled.ensures (not-false _ c.before.before.before.before.if1.false) c.before.before.before.on.ensures c.before.before.byte.ensures c.before.is-name-byte.ensures c.if2.true)
 
 returns-3 : tie.Need-returns-3
-returns-3 c = ap (Class c.before.before.before.before.before.before.before.before.args.here) c.before.before.before.on.ensures ∙ ap (class_item c.before.before.before.before.before.before.before.before.args.here) (parted c.before.before.before.before.before.before.before.before.args.text.now c.before.before.before.before.before.before.before.before.args.here (ascii "class") c.before.before.before.before.before.spelled.ensures (not_false _ c.before.before.before.before.if1.false) c.before.before.before.on.ensures c.before.before.byte.ensures c.before.is-name-byte.ensures c.if2.false)
+returns-3 c = ap (Class c.before.before.before.before.before.before.before.before.args.here) c.before.before.before.on.ensures ∙ ap (class_item c.before.before.before.before.before.before.before.before.args.here) (parted c.before.before.before.before.before.before.before.before.args.text.now c.before.before.before.before.before.before.before.before.args.here (ascii "class") c.before.before.before.before.before.spelled.ensures (not-false _ c.before.before.before.before.if1.false) c.before.before.before.on.ensures c.before.before.byte.ensures c.before.is-name-byte.ensures c.if2.false)
 
 pub class-item-spec : {M : Type 1} → statement M
 class-item-spec =

@@ -1,7 +1,7 @@
 -- `head_of` skips the blanks, which mostly are spaces, and looks at one byte. Assumes nothing.
 use mathlib.Core.Path.{refl}
 use native.Mathlib.Omega.{arith}
-use borrow.Author.Tests.{not_true}
+use borrow.Author.Tests.{not-true}
 use Rattle.characters.specs.PlaceLaws.{room}
 use Rattle.characters.specs.BlankLaws.{only_spaces, spaced_stands}
 use Rattle.grammar.specs.Heads.{head_of, head_past, head_by}
@@ -36,7 +36,7 @@ head-at-requires c κs = spaced_stands c.before.before.before.before.before.befo
 
 returns : tie.Need-returns
 unfolding head_of
-returns c = told (head_past c.before.before.before.before.before.before.before.args.text.now) (only_spaces c.before.before.before.before.before.spaces.ensures c.before.before.before.before.on.ensures c.before.before.before.byte.ensures c.before.before.opens-blank.ensures (not_true _ c.before.if1.true)) refl (seen (head_by c.before.before.before.before.before.before.before.args.text.now) (spaced_stands c.before.before.before.before.before.before.before.requires c.before.before.before.before.before.spaces.ensures c.before.before.before.before.on.ensures) c.before.before.before.byte.ensures c.head_at.ensures)
+returns c = told (head_past c.before.before.before.before.before.before.before.args.text.now) (only_spaces c.before.before.before.before.before.spaces.ensures c.before.before.before.before.on.ensures c.before.before.before.byte.ensures c.before.before.opens-blank.ensures (not-true _ c.before.if1.true)) refl (seen (head_by c.before.before.before.before.before.before.before.args.text.now) (spaced_stands c.before.before.before.before.before.before.before.requires c.before.before.before.before.before.spaces.ensures c.before.before.before.before.on.ensures) c.before.before.before.byte.ensures c.head_at.ensures)
 
 skip-requires : tie.Need-skip-requires
 skip-requires c κs = search rules

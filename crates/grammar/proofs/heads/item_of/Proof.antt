@@ -1,7 +1,7 @@
 -- `item_of` skips the blanks, which mostly are spaces, and looks at one byte. Assumes nothing.
 use mathlib.Core.Path.{refl}
 use native.Mathlib.Omega.{arith}
-use borrow.Author.Tests.{not_true}
+use borrow.Author.Tests.{not-true}
 use Rattle.characters.specs.PlaceLaws.{room}
 use Rattle.characters.specs.BlankLaws.{only_spaces, spaced_stands}
 use Rattle.grammar.specs.Heads.{item_of, item_past, item_by}
@@ -36,7 +36,7 @@ item-at-requires c κs = (spaced_stands c.before.before.before.before.before.bef
 
 returns : tie.Need-returns
 unfolding item_of
-returns c = told (item_past c.before.before.before.before.before.before.before.args.text.now) (only_spaces c.before.before.before.before.before.spaces.ensures c.before.before.before.before.on.ensures c.before.before.before.byte.ensures c.before.before.opens-blank.ensures (not_true _ c.before.if1.true)) refl (seen (item_by c.before.before.before.before.before.before.before.args.text.now) (spaced_stands c.before.before.before.before.before.before.before.requires c.before.before.before.before.before.spaces.ensures c.before.before.before.before.on.ensures) c.before.before.before.byte.ensures c.item-at.ensures)
+returns c = told (item_past c.before.before.before.before.before.before.before.args.text.now) (only_spaces c.before.before.before.before.before.spaces.ensures c.before.before.before.before.on.ensures c.before.before.before.byte.ensures c.before.before.opens-blank.ensures (not-true _ c.before.if1.true)) refl (seen (item_by c.before.before.before.before.before.before.before.args.text.now) (spaced_stands c.before.before.before.before.before.before.before.requires c.before.before.before.before.before.spaces.ensures c.before.before.before.before.on.ensures) c.before.before.before.byte.ensures c.item-at.ensures)
 
 skip-requires : tie.Need-skip-requires
 skip-requires c κs = search rules

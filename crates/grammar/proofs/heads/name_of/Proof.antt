@@ -1,7 +1,7 @@
 -- `name_of` skips the blanks, which mostly are spaces, and reads the name. Assumes nothing.
 use mathlib.Core.Path.{refl}
 use native.Mathlib.Omega.{arith}
-use borrow.Author.Tests.{not_true}
+use borrow.Author.Tests.{not-true}
 use Rattle.characters.specs.PlaceLaws.{room}
 use Rattle.characters.specs.BlankLaws.{only_spaces, spaced_stands}
 use Rattle.grammar.specs.Heads.{name_of, name_past}
@@ -36,7 +36,7 @@ free-name-requires c κs = spaced_stands c.before.before.before.before.before.be
 
 returns : tie.Need-returns
 unfolding name_of
-returns c = told (name_past c.before.before.before.before.before.before.before.args.text.now) (only_spaces c.before.before.before.before.before.spaces.ensures c.before.before.before.before.on.ensures c.before.before.before.byte.ensures c.before.before.opens-blank.ensures (not_true _ c.before.if1.true)) refl c.free-name.ensures
+returns c = told (name_past c.before.before.before.before.before.before.before.args.text.now) (only_spaces c.before.before.before.before.before.spaces.ensures c.before.before.before.before.on.ensures c.before.before.before.byte.ensures c.before.before.opens-blank.ensures (not-true _ c.before.if1.true)) refl c.free-name.ensures
 
 skip-requires : tie.Need-skip-requires
 skip-requires c κs = search rules

@@ -1,7 +1,7 @@
 -- `close_of` skips the blanks, which mostly are spaces, and compares one byte. Assumes nothing.
 use mathlib.Core.Path.{refl}
 use native.Mathlib.Omega.{arith}
-use borrow.Author.Tests.{not_true}
+use borrow.Author.Tests.{not-true}
 use Rattle.characters.specs.PlaceLaws.{room}
 use Rattle.characters.specs.BlankLaws.{only_spaces, spaced_stands}
 use Rattle.grammar.proofs.Leafing.{passed, close_halts, close_by_lem}
@@ -33,7 +33,7 @@ close-at-requires : tie.Need-close-at-requires
 close-at-requires c κs = let h = room (spaced_stands c.before.before.before.before.before.before.requires c.before.before.before.before.spaces.ensures c.before.before.before.on.ensures) in (omega arith, omega arith)
 
 returns : tie.Need-returns
-returns c = close_by_lem c.before.before.before.before.before.before.before.args.end c.before.before.before.before.before.before.before.requires (only_spaces c.before.before.before.before.before.spaces.ensures c.before.before.before.before.on.ensures c.before.before.before.byte.ensures c.before.before.opens-blank.ensures (not_true _ c.before.if1.true)) refl c.before.before.before.byte.ensures c.close_at.ensures
+returns c = close_by_lem c.before.before.before.before.before.before.before.args.end c.before.before.before.before.before.before.before.requires (only_spaces c.before.before.before.before.before.spaces.ensures c.before.before.before.before.on.ensures c.before.before.before.byte.ensures c.before.before.opens-blank.ensures (not-true _ c.before.if1.true)) refl c.before.before.before.byte.ensures c.close_at.ensures
 
 skip-requires : tie.Need-skip-requires
 skip-requires c κs = search rules

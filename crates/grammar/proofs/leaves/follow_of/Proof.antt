@@ -1,7 +1,7 @@
 -- `follow_of` looks for the closing sign, and then for a comma. Assumes nothing.
 use mathlib.Core.Path.{refl}
 use native.Mathlib.Omega.{arith}
-use borrow.Author.Tests.{not_true}
+use borrow.Author.Tests.{not-true}
 use Rattle.characters.specs.PlaceLaws.{room}
 use Rattle.characters.specs.BlankLaws.{only_spaces, spaced_stands}
 use Rattle.grammar.proofs.Leafing.{missing_stands, follow_by_lem, comma_by_lem, follow_near}
@@ -34,7 +34,7 @@ follow-at-requires : tie.Need-follow-at-requires
 follow-at-requires c κs = let h = room (spaced_stands c.before.before.before.before.before.before.requires c.before.before.before.before.spaces.ensures c.before.before.before.on.ensures) in (omega arith, omega arith)
 
 returns : tie.Need-returns
-returns c = follow_near c.before.before.before.before.before.before.before.requires (only_spaces c.before.before.before.before.before.spaces.ensures c.before.before.before.before.on.ensures c.before.before.before.byte.ensures c.before.before.opens-blank.ensures (not_true _ c.before.if1.true)) c.before.before.before.byte.ensures c.before.before.opens-blank.ensures (not_true _ c.before.if1.true) (omega arith) c.follow-at.ensures
+returns c = follow_near c.before.before.before.before.before.before.before.requires (only_spaces c.before.before.before.before.before.spaces.ensures c.before.before.before.before.on.ensures c.before.before.before.byte.ensures c.before.before.opens-blank.ensures (not-true _ c.before.if1.true)) c.before.before.before.byte.ensures c.before.before.opens-blank.ensures (not-true _ c.before.if1.true) (omega arith) c.follow-at.ensures
 
 sign-requires : tie.Need-sign-requires
 sign-requires c κs = search rules

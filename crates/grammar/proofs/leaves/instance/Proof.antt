@@ -1,6 +1,6 @@
 -- `instance` tests the keyword, looks at what follows, and reads the name of a class. Assumes nothing.
 use Rattle.grammar.proofs.Leafing.{passed, instance_none, instance_stands, instance_goes_on, instance_halts, instance_class}
-use borrow.Author.Tests.{not_true, not_false}
+use borrow.Author.Tests.{not-true, not-false}
 use borrow.Author.Rules.{rules}
 use Rattle.grammar.proofs.leaves.instance.Statement.{statement}
 use Rattle.grammar.proofs.leaves.instance.Tie as tie
@@ -20,7 +20,7 @@ spelled-requires : tie.Need-spelled-requires
 spelled-requires c κs = search rules
 
 returns : tie.Need-returns
-returns c = instance_none c.before.before.before.before.requires.0 c.before.spelled.ensures (not_true _ c.if1.true)
+returns c = instance_none c.before.before.before.before.requires.0 c.before.spelled.ensures (not-true _ c.if1.true)
 
 on-requires : tie.Need-on-requires
 on-requires c κs = search rules
@@ -32,10 +32,10 @@ is-name-byte-requires : tie.Need-is-name-byte-requires
 is-name-byte-requires c κs = search rules
 
 returns-2 : tie.Need-returns-2
-returns-2 c = instance_goes_on c.before.before.before.before.before.before.before.before.requires.0 c.before.before.before.before.before.spelled.ensures (not_false _ c.before.before.before.before.if1.false) c.before.before.before.on.ensures c.before.before.byte.ensures c.before.is-name-byte.ensures c.if2.true
+returns-2 c = instance_goes_on c.before.before.before.before.before.before.before.before.requires.0 c.before.before.before.before.before.spelled.ensures (not-false _ c.before.before.before.before.if1.false) c.before.before.before.on.ensures c.before.before.byte.ensures c.before.is-name-byte.ensures c.if2.true
 
 skip-requires : tie.Need-skip-requires
-skip-requires c κs = instance_stands c.before.before.before.before.before.before.before.before.requires.0 c.before.before.before.before.before.spelled.ensures (not_false _ c.before.before.before.before.if1.false) c.before.before.before.on.ensures
+skip-requires c κs = instance_stands c.before.before.before.before.before.before.before.before.requires.0 c.before.before.before.before.before.spelled.ensures (not-false _ c.before.before.before.before.if1.false) c.before.before.before.on.ensures
 
 enum-known-blanks : tie.Need-enum-known-blanks
 enum-known-blanks c = search rules
@@ -44,13 +44,13 @@ enum-known-blanks-2 : tie.Need-enum-known-blanks-2
 enum-known-blanks-2 c = search rules
 
 class-name-requires : tie.Need-class-name-requires
-class-name-requires c κs = (passed (instance_stands c.before.before.before.before.before.before.before.before.before.before.before.before.requires.0 c.before.before.before.before.before.before.before.before.before.spelled.ensures (not_false _ c.before.before.before.before.before.before.before.before.if1.false) c.before.before.before.before.before.before.before.on.ensures) c.before.before.before.skip.ensures c.before.blanks2.given.1, c.before.before.before.before.before.before.before.before.before.before.before.before.requires.1)
+class-name-requires c κs = (passed (instance_stands c.before.before.before.before.before.before.before.before.before.before.before.before.requires.0 c.before.before.before.before.before.before.before.before.before.spelled.ensures (not-false _ c.before.before.before.before.before.before.before.before.if1.false) c.before.before.before.before.before.before.before.on.ensures) c.before.before.before.skip.ensures c.before.blanks2.given.1, c.before.before.before.before.before.before.before.before.before.before.before.before.requires.1)
 
 returns-3 : tie.Need-returns-3
-returns-3 c = instance_halts c.before.before.before.before.before.before.before.before.before.before.before.before.requires.0 c.before.before.before.before.before.before.before.before.before.spelled.ensures (not_false _ c.before.before.before.before.before.before.before.before.if1.false) c.before.before.before.before.before.before.before.on.ensures c.before.before.before.before.before.before.byte.ensures c.before.before.before.before.before.is-name-byte.ensures c.before.before.before.before.if2.false c.before.before.before.skip.ensures c.before.blanks.given.1
+returns-3 c = instance_halts c.before.before.before.before.before.before.before.before.before.before.before.before.requires.0 c.before.before.before.before.before.before.before.before.before.spelled.ensures (not-false _ c.before.before.before.before.before.before.before.before.if1.false) c.before.before.before.before.before.before.before.on.ensures c.before.before.before.before.before.before.byte.ensures c.before.before.before.before.before.is-name-byte.ensures c.before.before.before.before.if2.false c.before.before.before.skip.ensures c.before.blanks.given.1
 
 returns-4 : tie.Need-returns-4
-returns-4 c = instance_class c.before.before.before.before.before.before.before.before.before.before.before.before.before.requires.0 c.before.before.before.before.before.before.before.before.before.before.spelled.ensures (not_false _ c.before.before.before.before.before.before.before.before.before.if1.false) c.before.before.before.before.before.before.before.before.on.ensures c.before.before.before.before.before.before.before.byte.ensures c.before.before.before.before.before.before.is-name-byte.ensures c.before.before.before.before.before.if2.false c.before.before.before.before.skip.ensures c.before.before.blanks2.given.1 c.class_name.ensures
+returns-4 c = instance_class c.before.before.before.before.before.before.before.before.before.before.before.before.before.requires.0 c.before.before.before.before.before.before.before.before.before.before.spelled.ensures (not-false _ c.before.before.before.before.before.before.before.before.before.if1.false) c.before.before.before.before.before.before.before.before.on.ensures c.before.before.before.before.before.before.before.byte.ensures c.before.before.before.before.before.before.is-name-byte.ensures c.before.before.before.before.before.if2.false c.before.before.before.before.skip.ensures c.before.before.blanks2.given.1 c.class_name.ensures
 
 pub instance-spec : {M : Type 1} → statement M
 instance-spec =

@@ -1,7 +1,7 @@
 -- `prefix_of` skips the blanks, which mostly are spaces. Assumes nothing.
 use mathlib.Core.Path.{refl}
 use native.Mathlib.Omega.{arith}
-use borrow.Author.Tests.{not_true}
+use borrow.Author.Tests.{not-true}
 use Rattle.characters.specs.PlaceLaws.{room}
 use Rattle.characters.specs.BlankLaws.{only_spaces, spaced_stands}
 use Rattle.grammar.proofs.Leafing.{passed, prefix_halts, prefix_taken}
@@ -33,7 +33,7 @@ prefix-at-requires : tie.Need-prefix-at-requires
 prefix-at-requires c κs = (spaced_stands c.before.before.before.before.before.before.requires c.before.before.before.before.spaces.ensures c.before.before.before.on.ensures)
 
 returns : tie.Need-returns
-returns c = prefix_taken c.before.before.before.before.before.before.before.requires (only_spaces c.before.before.before.before.before.spaces.ensures c.before.before.before.before.on.ensures c.before.before.before.byte.ensures c.before.before.opens-blank.ensures (not_true _ c.before.if1.true)) refl c.prefix-at.ensures
+returns c = prefix_taken c.before.before.before.before.before.before.before.requires (only_spaces c.before.before.before.before.before.spaces.ensures c.before.before.before.before.on.ensures c.before.before.before.byte.ensures c.before.before.opens-blank.ensures (not-true _ c.before.if1.true)) refl c.prefix-at.ensures
 
 skip-requires : tie.Need-skip-requires
 skip-requires c κs = search rules

@@ -1,5 +1,5 @@
 -- `over` looks at one byte, and past a `=` at a second. Assumes nothing.
-use borrow.Author.Tests.{not_false}
+use borrow.Author.Tests.{not-false}
 use Rattle.makers.specs.Laws.PlainEnds.{over_not, over_shut, over_colon, over_assign}
 use borrow.Author.Rules.{rules}
 use Rattle.makers.proofs.plain.over.Statement.{statement}
@@ -21,7 +21,7 @@ byte-requires-2 : tie.Need-byte-requires-2
 byte-requires-2 c κs = search rules
 
 returns-2 : tie.Need-returns-2
-returns-2 c = over_assign c.before.before.before.before.byte.ensures c.before.before.before.match.keys2 (not_false _ c.before.before.if1.false) c.byte2.ensures
+returns-2 c = over_assign c.before.before.before.before.byte.ensures c.before.before.before.match.keys2 (not-false _ c.before.before.if1.false) c.byte2.ensures
 
 returns-3 : tie.Need-returns-3
 returns-3 c = over_not

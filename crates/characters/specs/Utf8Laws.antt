@@ -18,7 +18,7 @@ abbrev pub every : (Row → Bool) → List Row → Bool
 every f [] = true
 every f (row ∷ rows) = f row && every f rows
 
-pub every_row : (f : Row → Bool) {rows : List Row} → every f rows ≡ true → {row : Row} → Memᴰ row rows → f row ≡ true
+pub every_row : (f : Row → Bool) {row : Row} {rows : List Row} → every f rows ≡ true → Memᴰ row rows → f row ≡ true
 every_row f t (Memᴰ.head {x = x} {xs = rows} e) = ap f e ∙ ((and-eq-true_iff (f x) (every f rows)).0 t).0
 every_row f t (Memᴰ.tail {x = x} {xs = rows} m) = every_row f ((and-eq-true_iff (f x) (every f rows)).0 t).1 m
 
@@ -149,6 +149,7 @@ row_by_lead n ((r ∷ x) ∷ rows) t b s = go (inside r b) refl (row_by_lead (su
 
 -- a row that a byte opens has its lead from `n` on
 lead_above : (n : ℕ) (rows : List Row) → ascend n rows ≡ true → {row : Row} → Memᴰ row rows → (b : ℕ) → opens row b ≡ true → n ≤ b
+lead_above n [] t {row = row} m b o = elim m [ ]
 lead_above n ([] ∷ rows) t m b o = never t
 lead_above n ((r ∷ x) ∷ rows) t (Memᴰ.head e) b o =
     let h : n ≤ r.low = (ascends n r x rows t).above in
@@ -161,6 +162,7 @@ lead_above n ((r ∷ x) ∷ rows) t (Memᴰ.tail m) b o =
 
 -- no other row has that lead
 opened_only : (n : ℕ) (rows : List Row) → ascend n rows ≡ true → {row : Row} → Memᴰ row rows → (b : ℕ) → opens row b ≡ true → opened_in rows b ≡ row
+opened_only n [] t {row = row} m b o = elim m [ ]
 opened_only n ([] ∷ rows) t m b o = never t
 opened_only n ((r ∷ x) ∷ rows) t (Memᴰ.head e) b o = opened_yes (r ∷ x) rows b (ap (λ (y : Row). opens y b) (sym e) ∙ o) ∙ sym e
 opened_only n ((r ∷ x) ∷ rows) t {row} (Memᴰ.tail m) b o = go (inside r b) refl (opened_only (suc r.high) rows a.next m b o)

@@ -41,7 +41,7 @@ use records::nodes::{kind_of, make, make_like, position_of};
 
 // expression: prefix { operator prefix } [ '?' expression ':' expression ]
 // Most begin with a plain operand, and most of those end there. With `assigning` an assignment sign may follow.
-#[cycle(array_asserts_assign_atom_block_body_call_chain_choice_cond_dict_elem_elses_expr_first_fors_func_funs_ifs_index_lambda_lets_list_long_loops_pair_paren_postfix_posts_prefix_rest_result_rets_round_statement_store_suffix_term_test_third_value_whiles)]
+#[cycle(readers)]
 pub fn expr(
     text: &[u8],
     pool: &mut [u32],
@@ -77,7 +77,7 @@ pub fn expr(
 }
 
 // An expression that begins with no plain operand, its level taken.
-#[cycle(array_asserts_assign_atom_block_body_call_chain_choice_cond_dict_elem_elses_expr_first_fors_func_funs_ifs_index_lambda_lets_list_long_loops_pair_paren_postfix_posts_prefix_rest_result_rets_round_statement_store_suffix_term_test_third_value_whiles)]
+#[cycle(readers)]
 fn long(
     text: &[u8],
     pool: &mut [u32],
@@ -102,7 +102,7 @@ fn long(
 }
 
 // What follows the plain operand that an expression begins with.
-#[cycle(array_asserts_assign_atom_block_body_call_chain_choice_cond_dict_elem_elses_expr_first_fors_func_funs_ifs_index_lambda_lets_list_long_loops_pair_paren_postfix_posts_prefix_rest_result_rets_round_statement_store_suffix_term_test_third_value_whiles)]
+#[cycle(readers)]
 fn rest(
     text: &[u8],
     pool: &mut [u32],
@@ -131,7 +131,7 @@ fn rest(
 }
 
 // { operator prefix } [ '?' expression ':' expression ], the first operand read
-#[cycle(array_asserts_assign_atom_block_body_call_chain_choice_cond_dict_elem_elses_expr_first_fors_func_funs_ifs_index_lambda_lets_list_long_loops_pair_paren_postfix_posts_prefix_rest_result_rets_round_statement_store_suffix_term_test_third_value_whiles)]
+#[cycle(readers)]
 fn chain(
     text: &[u8],
     pool: &mut [u32],
@@ -194,7 +194,7 @@ fn chain(
 }
 
 // prefix, which mostly is a plain operand
-#[cycle(array_asserts_assign_atom_block_body_call_chain_choice_cond_dict_elem_elses_expr_first_fors_func_funs_ifs_index_lambda_lets_list_long_loops_pair_paren_postfix_posts_prefix_rest_result_rets_round_statement_store_suffix_term_test_third_value_whiles)]
+#[cycle(readers)]
 fn term(text: &[u8], pool: &mut [u32], cap: u32, comps: u32, left: u32, at: Place, t: Tally) -> Got
     requires { Ready text.now pool.old cap at t }
     ensures { Reads text.now cap comps left at t (prefix_p text.now at) result pool.old pool.new }
@@ -214,7 +214,7 @@ fn term(text: &[u8], pool: &mut [u32], cap: u32, comps: u32, left: u32, at: Plac
 }
 
 // '?' expression ':' expression, the test read
-#[cycle(array_asserts_assign_atom_block_body_call_chain_choice_cond_dict_elem_elses_expr_first_fors_func_funs_ifs_index_lambda_lets_list_long_loops_pair_paren_postfix_posts_prefix_rest_result_rets_round_statement_store_suffix_term_test_third_value_whiles)]
+#[cycle(readers)]
 fn choice(
     text: &[u8],
     pool: &mut [u32],
@@ -251,7 +251,7 @@ fn choice(
 }
 
 // prefix: ( '!' | '-' | '+' ) prefix | postfix
-#[cycle(array_asserts_assign_atom_block_body_call_chain_choice_cond_dict_elem_elses_expr_first_fors_func_funs_ifs_index_lambda_lets_list_long_loops_pair_paren_postfix_posts_prefix_rest_result_rets_round_statement_store_suffix_term_test_third_value_whiles)]
+#[cycle(readers)]
 fn prefix(
     text: &[u8],
     pool: &mut [u32],
@@ -295,7 +295,7 @@ fn prefix(
 }
 
 // postfix: atom { '(' list | '[' expression ']' | '.' name | 'instanceof' name }
-#[cycle(array_asserts_assign_atom_block_body_call_chain_choice_cond_dict_elem_elses_expr_first_fors_func_funs_ifs_index_lambda_lets_list_long_loops_pair_paren_postfix_posts_prefix_rest_result_rets_round_statement_store_suffix_term_test_third_value_whiles)]
+#[cycle(readers)]
 fn postfix(
     text: &[u8],
     pool: &mut [u32],
@@ -316,7 +316,7 @@ fn postfix(
 }
 
 // { '(' list | '[' expression ']' | '.' name | 'instanceof' name }, on the last record
-#[cycle(array_asserts_assign_atom_block_body_call_chain_choice_cond_dict_elem_elses_expr_first_fors_func_funs_ifs_index_lambda_lets_list_long_loops_pair_paren_postfix_posts_prefix_rest_result_rets_round_statement_store_suffix_term_test_third_value_whiles)]
+#[cycle(readers)]
 fn posts(text: &[u8], pool: &mut [u32], cap: u32, comps: u32, left: u32, at: Place, t: Tally) -> Got
     requires { Begun text.now pool.old cap at t }
     ensures { Reads text.now cap comps left at t (postfixes_p (turns text.now) text.now (last_of pool.old t) at) result pool.old pool.new }
@@ -349,7 +349,7 @@ fn posts(text: &[u8], pool: &mut [u32], cap: u32, comps: u32, left: u32, at: Pla
 }
 
 // '(' list | '[' expression ']' | '.' name | 'instanceof' name, on the last record
-#[cycle(array_asserts_assign_atom_block_body_call_chain_choice_cond_dict_elem_elses_expr_first_fors_func_funs_ifs_index_lambda_lets_list_long_loops_pair_paren_postfix_posts_prefix_rest_result_rets_round_statement_store_suffix_term_test_third_value_whiles)]
+#[cycle(readers)]
 fn suffix(
     text: &[u8],
     pool: &mut [u32],
@@ -377,7 +377,7 @@ fn suffix(
 }
 
 // '(' list, on the last record: at most 254 arguments, tested after the closing sign
-#[cycle(array_asserts_assign_atom_block_body_call_chain_choice_cond_dict_elem_elses_expr_first_fors_func_funs_ifs_index_lambda_lets_list_long_loops_pair_paren_postfix_posts_prefix_rest_result_rets_round_statement_store_suffix_term_test_third_value_whiles)]
+#[cycle(readers)]
 fn call(
     text: &[u8],
     pool: &mut [u32],
@@ -423,7 +423,7 @@ fn call(
 }
 
 // '[' expression ']', on the last record
-#[cycle(array_asserts_assign_atom_block_body_call_chain_choice_cond_dict_elem_elses_expr_first_fors_func_funs_ifs_index_lambda_lets_list_long_loops_pair_paren_postfix_posts_prefix_rest_result_rets_round_statement_store_suffix_term_test_third_value_whiles)]
+#[cycle(readers)]
 fn index(
     text: &[u8],
     pool: &mut [u32],
@@ -457,7 +457,7 @@ fn index(
 }
 
 // atom: literal | name | '$' name | '(' expression ')' | '[' list | '{' dictionary | lambda
-#[cycle(array_asserts_assign_atom_block_body_call_chain_choice_cond_dict_elem_elses_expr_first_fors_func_funs_ifs_index_lambda_lets_list_long_loops_pair_paren_postfix_posts_prefix_rest_result_rets_round_statement_store_suffix_term_test_third_value_whiles)]
+#[cycle(readers)]
 fn atom(text: &[u8], pool: &mut [u32], cap: u32, comps: u32, left: u32, at: Place, t: Tally) -> Got
     requires { Ready text.now pool.old cap at t }
     ensures { Reads text.now cap comps left at t (atom_p text.now at) result pool.old pool.new }
@@ -488,7 +488,7 @@ fn atom(text: &[u8], pool: &mut [u32], cap: u32, comps: u32, left: u32, at: Plac
 }
 
 // '(' expression ')': parentheses leave no trace
-#[cycle(array_asserts_assign_atom_block_body_call_chain_choice_cond_dict_elem_elses_expr_first_fors_func_funs_ifs_index_lambda_lets_list_long_loops_pair_paren_postfix_posts_prefix_rest_result_rets_round_statement_store_suffix_term_test_third_value_whiles)]
+#[cycle(readers)]
 fn paren(text: &[u8], pool: &mut [u32], cap: u32, comps: u32, left: u32, at: Place, t: Tally) -> Got
     requires { Ready text.now pool.old cap at t }
     ensures { Reads text.now cap comps left at t (paren_p text.now at) result pool.old pool.new }
@@ -509,7 +509,7 @@ fn paren(text: &[u8], pool: &mut [u32], cap: u32, comps: u32, left: u32, at: Pla
 }
 
 // '[' list
-#[cycle(array_asserts_assign_atom_block_body_call_chain_choice_cond_dict_elem_elses_expr_first_fors_func_funs_ifs_index_lambda_lets_list_long_loops_pair_paren_postfix_posts_prefix_rest_result_rets_round_statement_store_suffix_term_test_third_value_whiles)]
+#[cycle(readers)]
 fn array(
     text: &[u8],
     pool: &mut [u32],
@@ -547,7 +547,7 @@ fn array(
 }
 
 // list: { expression ',' } [ expression ] end
-#[cycle(array_asserts_assign_atom_block_body_call_chain_choice_cond_dict_elem_elses_expr_first_fors_func_funs_ifs_index_lambda_lets_list_long_loops_pair_paren_postfix_posts_prefix_rest_result_rets_round_statement_store_suffix_term_test_third_value_whiles)]
+#[cycle(readers)]
 fn list(
     text: &[u8],
     pool: &mut [u32],
@@ -630,7 +630,7 @@ fn list(
 }
 
 // expression, and its item; most are one plain operand
-#[cycle(array_asserts_assign_atom_block_body_call_chain_choice_cond_dict_elem_elses_expr_first_fors_func_funs_ifs_index_lambda_lets_list_long_loops_pair_paren_postfix_posts_prefix_rest_result_rets_round_statement_store_suffix_term_test_third_value_whiles)]
+#[cycle(readers)]
 fn elem(
     text: &[u8],
     pool: &mut [u32],
@@ -674,7 +674,7 @@ fn elem(
 }
 
 // dictionary: { key [ ':' expression ] ',' } [ key [ ':' expression ] ] '}'
-#[cycle(array_asserts_assign_atom_block_body_call_chain_choice_cond_dict_elem_elses_expr_first_fors_func_funs_ifs_index_lambda_lets_list_long_loops_pair_paren_postfix_posts_prefix_rest_result_rets_round_statement_store_suffix_term_test_third_value_whiles)]
+#[cycle(readers)]
 fn dict(
     text: &[u8],
     pool: &mut [u32],
@@ -735,7 +735,7 @@ fn dict(
 }
 
 // key [ ':' expression ], and its item
-#[cycle(array_asserts_assign_atom_block_body_call_chain_choice_cond_dict_elem_elses_expr_first_fors_func_funs_ifs_index_lambda_lets_list_long_loops_pair_paren_postfix_posts_prefix_rest_result_rets_round_statement_store_suffix_term_test_third_value_whiles)]
+#[cycle(readers)]
 fn pair(
     text: &[u8],
     pool: &mut [u32],
@@ -777,7 +777,7 @@ fn pair(
 }
 
 // [ ':' expression ]; the implied `true` stands at the dictionary
-#[cycle(array_asserts_assign_atom_block_body_call_chain_choice_cond_dict_elem_elses_expr_first_fors_func_funs_ifs_index_lambda_lets_list_long_loops_pair_paren_postfix_posts_prefix_rest_result_rets_round_statement_store_suffix_term_test_third_value_whiles)]
+#[cycle(readers)]
 fn value(
     text: &[u8],
     pool: &mut [u32],
@@ -807,7 +807,7 @@ fn value(
 }
 
 // lambda: '|' parameters ( block | expression ), at its first `|`
-#[cycle(array_asserts_assign_atom_block_body_call_chain_choice_cond_dict_elem_elses_expr_first_fors_func_funs_ifs_index_lambda_lets_list_long_loops_pair_paren_postfix_posts_prefix_rest_result_rets_round_statement_store_suffix_term_test_third_value_whiles)]
+#[cycle(readers)]
 fn lambda(
     text: &[u8],
     pool: &mut [u32],
@@ -856,7 +856,7 @@ fn lambda(
 }
 
 // block | expression, which the lambda at `from` returns
-#[cycle(array_asserts_assign_atom_block_body_call_chain_choice_cond_dict_elem_elses_expr_first_fors_func_funs_ifs_index_lambda_lets_list_long_loops_pair_paren_postfix_posts_prefix_rest_result_rets_round_statement_store_suffix_term_test_third_value_whiles)]
+#[cycle(readers)]
 fn result(
     text: &[u8],
     pool: &mut [u32],
@@ -890,7 +890,7 @@ fn result(
 }
 
 // function: '(' parameters '{' block, after its name
-#[cycle(array_asserts_assign_atom_block_body_call_chain_choice_cond_dict_elem_elses_expr_first_fors_func_funs_ifs_index_lambda_lets_list_long_loops_pair_paren_postfix_posts_prefix_rest_result_rets_round_statement_store_suffix_term_test_third_value_whiles)]
+#[cycle(readers)]
 pub fn func(
     text: &[u8],
     pool: &mut [u32],
@@ -948,7 +948,7 @@ pub fn func(
 }
 
 // block: { statement } '}', after its '{', which stands at `from`
-#[cycle(array_asserts_assign_atom_block_body_call_chain_choice_cond_dict_elem_elses_expr_first_fors_func_funs_ifs_index_lambda_lets_list_long_loops_pair_paren_postfix_posts_prefix_rest_result_rets_round_statement_store_suffix_term_test_third_value_whiles)]
+#[cycle(readers)]
 fn block(
     text: &[u8],
     pool: &mut [u32],
@@ -997,7 +997,7 @@ fn block(
 }
 
 // statement: return | break | continue | if | loop | while | for | assert | let | fun | block | expr-or-assign
-#[cycle(array_asserts_assign_atom_block_body_call_chain_choice_cond_dict_elem_elses_expr_first_fors_func_funs_ifs_index_lambda_lets_list_long_loops_pair_paren_postfix_posts_prefix_rest_result_rets_round_statement_store_suffix_term_test_third_value_whiles)]
+#[cycle(readers)]
 pub fn statement(
     text: &[u8],
     pool: &mut [u32],
@@ -1053,7 +1053,7 @@ pub fn statement(
 }
 
 // return: 'return' [ expression ] ';', after the keyword, which stands at `from`
-#[cycle(array_asserts_assign_atom_block_body_call_chain_choice_cond_dict_elem_elses_expr_first_fors_func_funs_ifs_index_lambda_lets_list_long_loops_pair_paren_postfix_posts_prefix_rest_result_rets_round_statement_store_suffix_term_test_third_value_whiles)]
+#[cycle(readers)]
 fn rets(
     text: &[u8],
     pool: &mut [u32],
@@ -1105,7 +1105,7 @@ fn rets(
 }
 
 // condition: '(' expression ')'
-#[cycle(array_asserts_assign_atom_block_body_call_chain_choice_cond_dict_elem_elses_expr_first_fors_func_funs_ifs_index_lambda_lets_list_long_loops_pair_paren_postfix_posts_prefix_rest_result_rets_round_statement_store_suffix_term_test_third_value_whiles)]
+#[cycle(readers)]
 fn cond(text: &[u8], pool: &mut [u32], cap: u32, comps: u32, left: u32, at: Place, t: Tally) -> Got
     requires { Ready text.now pool.old cap at t }
     ensures { Reads text.now cap comps left at t (condition_p text.now at) result pool.old pool.new }
@@ -1122,7 +1122,7 @@ fn cond(text: &[u8], pool: &mut [u32], cap: u32, comps: u32, left: u32, at: Plac
 }
 
 // control-body: statement, which is no declaration
-#[cycle(array_asserts_assign_atom_block_body_call_chain_choice_cond_dict_elem_elses_expr_first_fors_func_funs_ifs_index_lambda_lets_list_long_loops_pair_paren_postfix_posts_prefix_rest_result_rets_round_statement_store_suffix_term_test_third_value_whiles)]
+#[cycle(readers)]
 fn body(text: &[u8], pool: &mut [u32], cap: u32, comps: u32, left: u32, at: Place, t: Tally) -> Got
     requires { Ready text.now pool.old cap at t }
     ensures { Reads text.now cap comps left at t (control_body_p text.now at) result pool.old pool.new }
@@ -1144,7 +1144,7 @@ fn body(text: &[u8], pool: &mut [u32], cap: u32, comps: u32, left: u32, at: Plac
 }
 
 // if: 'if' condition control-body [ 'else' control-body ], after the keyword, which stands at `from`
-#[cycle(array_asserts_assign_atom_block_body_call_chain_choice_cond_dict_elem_elses_expr_first_fors_func_funs_ifs_index_lambda_lets_list_long_loops_pair_paren_postfix_posts_prefix_rest_result_rets_round_statement_store_suffix_term_test_third_value_whiles)]
+#[cycle(readers)]
 fn ifs(
     text: &[u8],
     pool: &mut [u32],
@@ -1172,7 +1172,7 @@ fn ifs(
 }
 
 // [ 'else' control-body ], the test and the first body read
-#[cycle(array_asserts_assign_atom_block_body_call_chain_choice_cond_dict_elem_elses_expr_first_fors_func_funs_ifs_index_lambda_lets_list_long_loops_pair_paren_postfix_posts_prefix_rest_result_rets_round_statement_store_suffix_term_test_third_value_whiles)]
+#[cycle(readers)]
 fn elses(
     text: &[u8],
     pool: &mut [u32],
@@ -1211,7 +1211,7 @@ fn elses(
 }
 
 // loop: 'loop' control-body, after the keyword
-#[cycle(array_asserts_assign_atom_block_body_call_chain_choice_cond_dict_elem_elses_expr_first_fors_func_funs_ifs_index_lambda_lets_list_long_loops_pair_paren_postfix_posts_prefix_rest_result_rets_round_statement_store_suffix_term_test_third_value_whiles)]
+#[cycle(readers)]
 fn loops(
     text: &[u8],
     pool: &mut [u32],
@@ -1233,7 +1233,7 @@ fn loops(
 }
 
 // while: 'while' condition control-body, after the keyword
-#[cycle(array_asserts_assign_atom_block_body_call_chain_choice_cond_dict_elem_elses_expr_first_fors_func_funs_ifs_index_lambda_lets_list_long_loops_pair_paren_postfix_posts_prefix_rest_result_rets_round_statement_store_suffix_term_test_third_value_whiles)]
+#[cycle(readers)]
 fn whiles(
     text: &[u8],
     pool: &mut [u32],
@@ -1259,7 +1259,7 @@ fn whiles(
 }
 
 // for: 'for' '(' first-part test-part third-part control-body, after the keyword
-#[cycle(array_asserts_assign_atom_block_body_call_chain_choice_cond_dict_elem_elses_expr_first_fors_func_funs_ifs_index_lambda_lets_list_long_loops_pair_paren_postfix_posts_prefix_rest_result_rets_round_statement_store_suffix_term_test_third_value_whiles)]
+#[cycle(readers)]
 fn fors(
     text: &[u8],
     pool: &mut [u32],
@@ -1315,7 +1315,7 @@ fn fors(
 }
 
 // first-part: ';' | statement
-#[cycle(array_asserts_assign_atom_block_body_call_chain_choice_cond_dict_elem_elses_expr_first_fors_func_funs_ifs_index_lambda_lets_list_long_loops_pair_paren_postfix_posts_prefix_rest_result_rets_round_statement_store_suffix_term_test_third_value_whiles)]
+#[cycle(readers)]
 fn first(
     text: &[u8],
     pool: &mut [u32],
@@ -1363,7 +1363,7 @@ fn first(
 }
 
 // test-part: ';' | expression ';'
-#[cycle(array_asserts_assign_atom_block_body_call_chain_choice_cond_dict_elem_elses_expr_first_fors_func_funs_ifs_index_lambda_lets_list_long_loops_pair_paren_postfix_posts_prefix_rest_result_rets_round_statement_store_suffix_term_test_third_value_whiles)]
+#[cycle(readers)]
 fn test(text: &[u8], pool: &mut [u32], cap: u32, comps: u32, left: u32, at: Place, t: Tally) -> Part
     requires { Ready text.now pool.old cap at t }
     ensures { Parts text.now cap comps left at t (test_part_p text.now at) result pool.old pool.new }
@@ -1413,7 +1413,7 @@ fn test(text: &[u8], pool: &mut [u32], cap: u32, comps: u32, left: u32, at: Plac
 }
 
 // third-part: ')' | expr-or-assign, which ends with the `)`
-#[cycle(array_asserts_assign_atom_block_body_call_chain_choice_cond_dict_elem_elses_expr_first_fors_func_funs_ifs_index_lambda_lets_list_long_loops_pair_paren_postfix_posts_prefix_rest_result_rets_round_statement_store_suffix_term_test_third_value_whiles)]
+#[cycle(readers)]
 fn third(
     text: &[u8],
     pool: &mut [u32],
@@ -1461,7 +1461,7 @@ fn third(
 }
 
 // third-part control-body, the first two parts read
-#[cycle(array_asserts_assign_atom_block_body_call_chain_choice_cond_dict_elem_elses_expr_first_fors_func_funs_ifs_index_lambda_lets_list_long_loops_pair_paren_postfix_posts_prefix_rest_result_rets_round_statement_store_suffix_term_test_third_value_whiles)]
+#[cycle(readers)]
 fn round(
     text: &[u8],
     pool: &mut [u32],
@@ -1503,7 +1503,7 @@ fn round(
 }
 
 // assert: 'assert' condition ';', after the keyword
-#[cycle(array_asserts_assign_atom_block_body_call_chain_choice_cond_dict_elem_elses_expr_first_fors_func_funs_ifs_index_lambda_lets_list_long_loops_pair_paren_postfix_posts_prefix_rest_result_rets_round_statement_store_suffix_term_test_third_value_whiles)]
+#[cycle(readers)]
 fn asserts(
     text: &[u8],
     pool: &mut [u32],
@@ -1536,7 +1536,7 @@ fn asserts(
 }
 
 // let: 'let' [ 'var' ] name '=' expression ';', after the keyword
-#[cycle(array_asserts_assign_atom_block_body_call_chain_choice_cond_dict_elem_elses_expr_first_fors_func_funs_ifs_index_lambda_lets_list_long_loops_pair_paren_postfix_posts_prefix_rest_result_rets_round_statement_store_suffix_term_test_third_value_whiles)]
+#[cycle(readers)]
 fn lets(
     text: &[u8],
     pool: &mut [u32],
@@ -1582,7 +1582,7 @@ fn lets(
 }
 
 // fun: 'fun' name function, after the keyword: the function, the closure of it, and the `let` of that
-#[cycle(array_asserts_assign_atom_block_body_call_chain_choice_cond_dict_elem_elses_expr_first_fors_func_funs_ifs_index_lambda_lets_list_long_loops_pair_paren_postfix_posts_prefix_rest_result_rets_round_statement_store_suffix_term_test_third_value_whiles)]
+#[cycle(readers)]
 fn funs(
     text: &[u8],
     pool: &mut [u32],
@@ -1621,7 +1621,7 @@ fn funs(
 }
 
 // expr-or-assign: ( '++' | '--' ) postfix end | expression [ assignment-sign expression ] end
-#[cycle(array_asserts_assign_atom_block_body_call_chain_choice_cond_dict_elem_elses_expr_first_fors_func_funs_ifs_index_lambda_lets_list_long_loops_pair_paren_postfix_posts_prefix_rest_result_rets_round_statement_store_suffix_term_test_third_value_whiles)]
+#[cycle(readers)]
 fn assign(
     text: &[u8],
     pool: &mut [u32],
@@ -1660,7 +1660,7 @@ fn assign(
 }
 
 // [ assignment-sign expression ] end, the target or the call read; the statement stands at `from`
-#[cycle(array_asserts_assign_atom_block_body_call_chain_choice_cond_dict_elem_elses_expr_first_fors_func_funs_ifs_index_lambda_lets_list_long_loops_pair_paren_postfix_posts_prefix_rest_result_rets_round_statement_store_suffix_term_test_third_value_whiles)]
+#[cycle(readers)]
 fn store(
     text: &[u8],
     pool: &mut [u32],

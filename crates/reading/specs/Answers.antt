@@ -1,5 +1,5 @@
 -- What the caller is told: the number, the place and the counts of each ending and of each answer of the code. Assumes nothing.
-use Rattle.std.specs.Prelude.{◌≡◌, ℕ, length}
+use Rattle.std.proofs.Common.{◌≡◌, ℕ, length}
 use Rattle.characters.specs.declared.place.Place.{Place}
 use Rattle.characters.specs.declared.refusal.Refusal.{Refusal}
 use Rattle.characters.specs.declared.refusal.Refusal.TheVariants.{TooDeep, PoolFull, TooManyComparisons}

@@ -190,7 +190,7 @@ names_fuel (suc f) zero h k (more l c) = let z = l.stored.some in absurd (omega 
 names_fuel (suc f) (suc g) h k none = refl
 names_fuel {nm} {pool} {item} (suc f) (suc g) h k (more l c) =
     let z = l.earlier in
-    let e : names_by nm f pool (before_at pool item) ≡ names_by nm g pool (before_at pool item) = names_fuel f g (omega arith) (omega arith) c in
+    let e : names_by nm f pool (before_at pool item) ≡ names_by nm g pool (before_at pool item) = names_fuel {item = before_at pool item} f g (omega arith) (omega arith) c in
     names_more nm f pool item l.stored.some
     ∙ ap (λ (x : List Span). names_at nm pool item ++ x) e
     ∙ sym (names_more nm g pool item l.stored.some)
@@ -277,7 +277,7 @@ module _ {made : ℕ} {x y : List ℕ} (h : Keeps made x y) where
       let z = k.earlier in
       names_more nm f y item k.stored.some
       ∙ (λ i. at_same l k i ++ names_by nm f y (before_same item l i))
-      ∙ ap (λ (w : List Span). names_at nm x item ++ w) (names_same f (omega arith) c)
+      ∙ ap (λ (w : List Span). names_at nm x item ++ w) (names_same {item = before_at x item} f (omega arith) c)
       ∙ sym (names_more nm f x item k.stored.some)
 
   pub names_kept : {nm : Naming} {last : ℕ} → last ≤ made → Chained nm x last → names_of nm y last ≡ names_of nm x last

@@ -1,6 +1,5 @@
 -- WHAT GOES ON from an answer that is no record: a sign that may be there, a token that has to be, a list, a part of `for`. Assumes nothing.
-use Rattle.std.specs.Prelude.{◌≡◌, List, [], ◌∷◌, ℕ}
-use Rattle.std.proofs.Common.{sym, ap, subst, ◌∙◌}
+use Rattle.std.proofs.Common.{◌≡◌, List, [], ◌∷◌, ℕ, sym, ap, subst, ◌∙◌}
 use Rattle.characters.specs.declared.place.Place.{Place}
 use Rattle.characters.specs.declared.refusal.Refusal.{Refusal}
 use Rattle.characters.specs.declared.tokens.Look.{Look}
@@ -26,11 +25,11 @@ use Rattle.grammar.specs.Grammar.{grammar}
 use Rattle.grammar.specs.Reads.{Ready, Reads}
 use Rattle.grammar.specs.ReadLaws.{reads_on, refuses, ready_at}
 use Rattle.makers.specs.declared.answers.Items.{Items}
-use Rattle.makers.specs.declared.answers.Items.TheVariants as items
 use Rattle.makers.specs.declared.answers.Part.{Part}
-use Rattle.makers.specs.declared.answers.Part.TheVariants as part
 use Rattle.makers.specs.Duties.{refused_by, items_of, ItemsBy, Comes, Lists, part_at, part_of, PartBy, Parts}
 use Rattle.makers.specs.Laws.Acts.{reads_refused}
+use Rattle.makers.specs.declared.answers.Items.TheVariants as items
+use Rattle.makers.specs.declared.answers.Part.TheVariants as part
 
 -- ---- a sign that may be there: where it leads, and what is read on
 

@@ -1,0 +1,18 @@
+-- `line_stop` goes along a line, to its LF. Assumes nothing.
+use Rattle.std.proofs.Common.{refl, sym, ◌+◌, ◌-◌, length, arith, rules}
+use Rattle.characters.specs.Blanks.{is_in_line}
+use Rattle.characters.specs.BlankLaws.{in_line, no_line}
+use Rattle.characters.specs.CountLaws.{In, run_starts, run_on, run_ends, run_out}
+use Rattle.characters.proofs.blanks.line_stop.Given as goal
+
+abbrev pub invariant-loop-i : goal.invariant-loop-i
+invariant-loop-i l = In is_in_line l.text l.from l.i
+
+abbrev pub decreases-loop-i : goal.decreases-loop-i
+decreases-loop-i l = length l.text - l.i
+
+abbrev pub invariant-loop-i-2 : goal.invariant-loop-i-2
+invariant-loop-i-2 l = In is_in_line l.text l.from l.i
+
+abbrev pub decreases-loop-i-2 : goal.decreases-loop-i-2
+decreases-loop-i-2 l = length l.text - l.i

@@ -1,0 +1,11 @@
+-- `spaces` counts spaces: what is counted and what is left make up the whole run. Assumes nothing.
+use Rattle.std.proofs.Common.{refl, ◌-◌, length, arith, rules}
+use Rattle.characters.proofs.Places.{byte_in}
+use Rattle.characters.proofs.Passing.{InSpaces, space_step, space_out}
+use Rattle.characters.proofs.blanks.spaces.Given as goal
+
+abbrev pub invariant-loop-o : goal.invariant-loop-o
+invariant-loop-o l = InSpaces l.text l.from l.o
+
+abbrev pub decreases-loop-o : goal.decreases-loop-o
+decreases-loop-o l = length l.text - l.o

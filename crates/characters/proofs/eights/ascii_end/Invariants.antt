@@ -1,0 +1,18 @@
+-- `ascii_end` goes along ASCII bytes, by eights and then one by one. Assumes nothing.
+use Rattle.std.proofs.Common.{refl, sym, ◌-◌, length, arith, lt-ltb, le-ltb, rules}
+use borrow.Author.Tests.{not-false}
+use Rattle.characters.specs.Text.{is_ascii}
+use Rattle.characters.specs.CountLaws.{In, run_starts, run_on, run_many, run_ends, run_out}
+use Rattle.characters.proofs.eights.ascii_end.Given as goal
+
+abbrev pub invariant-loop-i : goal.invariant-loop-i
+invariant-loop-i l = In is_ascii l.text l.from l.i
+
+abbrev pub decreases-loop-i : goal.decreases-loop-i
+decreases-loop-i l = length l.text - l.i
+
+abbrev pub invariant-loop-i-2 : goal.invariant-loop-i-2
+invariant-loop-i-2 l = In is_ascii l.text l.from l.i
+
+abbrev pub decreases-loop-i-2 : goal.decreases-loop-i-2
+decreases-loop-i-2 l = length l.text - l.i

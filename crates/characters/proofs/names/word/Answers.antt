@@ -1,0 +1,40 @@
+-- `word` looks into the one slot that a name can be in. Assumes nothing.
+use Rattle.std.proofs.Common.{arith, rules}
+use Rattle.characters.proofs.Words.{other_head, empty_slot, other_rest, the_word, too_short, too_long}
+use Rattle.characters.proofs.names.word.Goals as goal
+
+pub returns-then-n-lt2 : goal.returns-then-n-lt2
+returns-then-n-lt2 c = too_short _ _ _ c.requires.0 c.requires.1 c.if-n-lt2.true
+
+pub returns-then-n-gt10 : goal.returns-then-n-gt10
+returns-then-n-gt10 c = too_long _ _ _ c.requires.0 c.requires.1 c.if-n-gt10.true
+
+pub overflow_mul-slot : goal.overflow_mul-slot
+overflow_mul-slot c = let l = c.requires.1 in let a = c.byte-a.ensures.inside (omega arith) in omega arith
+
+pub overflow_add-slot : goal.overflow_add-slot
+overflow_add-slot c = let l = c.requires.1 in let a = c.byte-a.ensures.inside (omega arith) in let b = c.byte-b.ensures.inside (omega arith) in omega arith
+
+pub overflow_add-slot-2 : goal.overflow_add-slot-2
+overflow_add-slot-2 c = let l = c.requires.1 in let a = c.byte-a.ensures.inside (omega arith) in let b = c.byte-b.ensures.inside (omega arith) in omega arith
+
+pub overflow_mul-head-2 : goal.overflow_mul-head-2
+overflow_mul-head-2 c = let l = c.requires.1 in let a = c.byte-a.ensures.inside (omega arith) in omega arith
+
+pub overflow_add-head : goal.overflow_add-head
+overflow_add-head c = let l = c.requires.1 in let a = c.byte-a.ensures.inside (omega arith) in omega arith
+
+pub overflow_add-head-2 : goal.overflow_add-head-2
+overflow_add-head-2 c = let l = c.requires.1 in let a = c.byte-a.ensures.inside (omega arith) in let b = c.byte-b.ensures.inside (omega arith) in omega arith
+
+pub returns-then-k-eq0 : goal.returns-then-k-eq0
+returns-then-k-eq0 c = empty_slot _ _ _ c.requires.0 c.requires.1 _ _ c.byte-a.ensures c.byte-b.ensures c.if-n-lt2.false _ c.slot_at-k.ensures.0 c.if-k-eq0.true
+
+pub returns-then-head_at-head : goal.returns-then-head_at-head
+returns-then-head_at-head c = other_head _ _ _ c.requires.0 c.requires.1 _ _ c.byte-a.ensures c.byte-b.ensures c.if-n-lt2.false _ _ c.slot_at-k.ensures.0 c.head_at.ensures c.if-head_at-head.true
+
+pub returns-then-rest_at-rest : goal.returns-then-rest_at-rest
+returns-then-rest_at-rest c = other_rest _ _ _ c.requires.0 c.requires.1 _ _ c.byte-a.ensures c.byte-b.ensures c.if-n-lt2.false _ _ _ c.slot_at-k.ensures.0 c.rest_at.ensures c.fold-rest.ensures c.if-rest_at-rest.true
+
+pub returns : goal.returns
+returns c = the_word _ _ _ c.requires.0 c.requires.1 _ _ c.byte-a.ensures c.byte-b.ensures c.if-n-lt2.false (λ i. omega (arith, c.shared_slice_known-1.given i)) _ _ _ _ c.slot_at-k.ensures.0 c.head_at.ensures c.if-head_at-head.false c.rest_at.ensures c.fold-rest.ensures c.if-rest_at-rest.false

@@ -1,0 +1,13 @@
+-- `need` refuses where the byte is not. Assumes nothing.
+use Rattle.std.proofs.Common.{rules}
+use Rattle.characters.proofs.Looking.{expected_by}
+use Rattle.characters.proofs.tokens.need.Goals as goal
+
+pub returns-in-Found : goal.returns-in-Found
+returns-in-Found c = expected_by _ _ _ _ _ c.sign-look.ensures c.in-Found.is
+
+pub returns-in-Missing : goal.returns-in-Missing
+returns-in-Missing c = expected_by _ _ _ _ _ c.sign-look.ensures c.in-Missing.is
+
+pub returns-in-Halted : goal.returns-in-Halted
+returns-in-Halted c = expected_by _ _ _ _ _ c.sign-look.ensures c.in-Halted.is

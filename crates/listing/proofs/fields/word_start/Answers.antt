@@ -1,0 +1,16 @@
+-- `word_start` counts spaces. So many words are still to pass. Assumes nothing.
+use Rattle.std.proofs.Common.{⊎_elim, sym, subst, ◌∙◌, ℕ, ◌+◌, ◌-◌, length, rules}
+use Rattle.listing.specs.Laws.Words.{Passing, passing_start, passing_space, passing_other, passing_end, passing_none}
+use Rattle.listing.proofs.fields.word_start.Goals as goal
+
+pub loop-left-init : goal.loop-left-init
+loop-left-init c = passing_start _ _
+
+pub returns-then-words-i : goal.returns-then-words-i
+returns-then-words-i c = passing_end c.loop-left.invariant c.if-words-i.true
+
+pub loop-left-preserved : goal.loop-left-preserved
+loop-left-preserved c = ⊎_elim (λ w. subst (λ (k : ℕ). Passing c.args.words.now c.args.n k (c.loop-left.i + 1)) (sym w.1) (passing_space c.loop-left.invariant c.loop-left-test.true c.if-words-i.false w.0.taken)) (λ w. subst (λ (k : ℕ). Passing c.args.words.now c.args.n k (c.loop-left.i + 1)) (sym w.1) (passing_other c.loop-left.invariant c.loop-left-test.true c.if-words-i.false w.0.left)) c.if-b-eq32.branch
+
+pub returns : goal.returns
+returns c = passing_none c.loop-left.invariant c.loop-left-test.false

@@ -1,0 +1,10 @@
+-- `word_start` counts spaces. So many words are still to pass. Assumes nothing.
+use Rattle.std.proofs.Common.{⊎_elim, sym, subst, ◌∙◌, ℕ, ◌+◌, ◌-◌, length, rules}
+use Rattle.listing.specs.Laws.Words.{Passing, passing_start, passing_space, passing_other, passing_end, passing_none}
+use Rattle.listing.proofs.fields.word_start.Given as goal
+
+abbrev pub invariant-loop-left : goal.invariant-loop-left
+invariant-loop-left l = Passing l.words l.n l.left l.i
+
+abbrev pub decreases-loop-left : goal.decreases-loop-left
+decreases-loop-left l = length l.words - l.i

@@ -1,0 +1,11 @@
+-- `pairs` prints byte after byte. What is left of the bytearray leads to the whole; each step leaves less of it. Assumes nothing.
+use Rattle.std.proofs.Common.{◌-◌, arith, length, rules}
+use Rattle.listing.specs.Laws.Texts.{Printing, pairs_from, printing_start, printing_byte, printing_opened, printing_shut, printing_refused, byte_further, opened_further}
+use Rattle.listing.specs.Sheets.{sheet}
+use Rattle.listing.proofs.texts.pairs.Given as goal
+
+abbrev pub invariant-loop-value : goal.invariant-loop-value
+invariant-loop-value l = Printing l.text (pairs_from l.text l.initial.p) (sheet l.initial.out l.at) (sheet l.out l.next) l.mode l.last l.p
+
+abbrev pub decreases-loop-value : goal.decreases-loop-value
+decreases-loop-value l = length l.text - l.p.offset

@@ -1,0 +1,14 @@
+-- `spelled` prints character after character. What is left to spell leads to the whole; each turn leaves less of it. Assumes nothing.
+use Rattle.std.proofs.Common.{sym, ◌∙◌, ◌-◌, ◌≤◌, arith, length, rules}
+use Rattle.listing.specs.Laws.Texts.{spelled_on, spelled_end}
+use Rattle.listing.specs.Laws.Sheets.{Going, going_start, going_on, going_end}
+use Rattle.listing.specs.Listing.{characters}
+use Rattle.listing.specs.Sheets.{sheet}
+use Rattle.literals.specs.SpellingLaws.{decoded_from, piece_inside}
+use Rattle.listing.proofs.texts.spelled.Given as goal
+
+abbrev pub invariant-loop-value : goal.invariant-loop-value
+invariant-loop-value l = Going (characters (decoded_from l.inner l.i)) (characters (decoded_from l.inner 0)) (sheet l.initial.out l.at) (sheet l.out l.next) × (l.i ≤ length l.inner)
+
+abbrev pub decreases-loop-value : goal.decreases-loop-value
+decreases-loop-value l = length l.inner - l.i

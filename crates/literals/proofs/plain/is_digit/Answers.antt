@@ -1,0 +1,10 @@
+-- `is_digit` knows the decimal digits. Assumes nothing.
+use Rattle.std.proofs.Common.{refl, le-leb, rules}
+use borrow.Author.Tests.{lt-leb}
+use Rattle.literals.proofs.plain.is_digit.Goals as goal
+
+pub returns-then-b-lt48 : goal.returns-then-b-lt48
+returns-then-b-lt48 c = rw (lt-leb 48 c.args.b c.if-b-lt48.true) refl
+
+pub returns : goal.returns
+returns c = rw (le-leb 48 c.args.b c.if-b-lt48.false) refl

@@ -1,0 +1,7 @@
+-- `make_fun` by its rule: an id, then a record. Assumes nothing.
+use Rattle.std.proofs.Common.{rules}
+use Rattle.makers.proofs.Ending.{fun_made}
+use Rattle.makers.proofs.endings.make_fun.Goals as goal
+
+pub returns : goal.returns
+returns c = fun_made c.next-id.ensures c.numbered-u.ensures c.fun_row-made.ensures c.make.ensures

@@ -1,0 +1,17 @@
+-- `signed` acts by its sign. Assumes nothing.
+use Rattle.std.proofs.Common.{eq-eqb, ne_eqb, rules}
+use Rattle.grammar.specs.Expressions.{sign_p}
+use Rattle.makers.specs.Laws.Acts.{acts_make, acts_yes, acts_no}
+use Rattle.makers.proofs.signs.signed.Goals as goal
+
+pub returns-then-sign-eq33 : goal.returns-then-sign-eq33
+unfolding sign_p
+returns-then-sign-eq33 c = acts_yes (eq-eqb _ _ c.if-sign-eq33.true) (acts_make c.row-made.ensures c.make.ensures)
+
+pub returns-then-sign-eq45 : goal.returns-then-sign-eq45
+unfolding sign_p
+returns-then-sign-eq45 c = acts_no (ne_eqb _ _ c.if-sign-eq33.false) (acts_yes (eq-eqb _ _ c.if-sign-eq45.true) c.minus.ensures)
+
+pub returns : goal.returns
+unfolding sign_p
+returns c = acts_no (ne_eqb _ _ c.if-sign-eq33.false) (acts_no (ne_eqb _ _ c.if-sign-eq45.false) c.plus.ensures)

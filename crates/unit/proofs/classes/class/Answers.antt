@@ -1,0 +1,10 @@
+-- `class` takes a level. Assumes nothing.
+use Rattle.std.proofs.Common.{rules}
+use Rattle.unit.specs.Laws.Classes.{class_deep, class_entered}
+use Rattle.unit.proofs.classes.class.Goals as goal
+
+pub returns-then-left-eq0 : goal.returns-then-left-eq0
+returns-then-left-eq0 c = class_deep c.if-left-eq0.true
+
+pub returns : goal.returns
+returns c = class_entered c.if-left-eq0.false c.named_class.ensures

@@ -1,14 +1,14 @@
 -- What the readers of tokens show on the way. Assumes nothing.
-use mathlib.Core.Path.{◌≡◌, refl, sym, ap, subst, subst⁻¹, ◌∙◌}
+use mathlib.Core.Path.{◌≡◌, refl, sym, ap, subst, ◌∙◌}
 use mathlib.Core.Bool.{Bool, true, false, ◌&&◌, not}
-use mathlib.Core.List.{List, [], ◌∷◌}
-use Prim.Native.Nat.{ℕ, zero, suc, ◌+◌, ◌-◌, ◌≤◌, ◌<◌}
+use mathlib.Core.List.{[], ◌∷◌}
+use Prim.Native.Nat.{ℕ, suc, ◌+◌, ◌-◌, ◌≤◌, ◌<◌}
 use native.Mathlib.Omega.{arith}
 use native.Mathlib.Numerals.{add-one}
-use lib.Dec.{eqb, ltb}
+use lib.Dec.{eqb}
 use lib.ListN.{length, get_or, drop, length-drop, drop_of_length-le}
 use lib.Seq.{drop-cons}
-use borrow.Author.Tests.{eq-eqb, ne_eqb, ltb-true, ltb-false}
+use borrow.Author.Tests.{eq-eqb, ne_eqb}
 use Rattle.characters.specs.declared.place.Place.{Place}
 use Rattle.characters.specs.declared.refusal.Refusal.{Refusal}
 use Rattle.characters.specs.declared.tokens.Look.{Look}
@@ -16,11 +16,11 @@ use Rattle.characters.specs.declared.tokens.Look.TheVariants.{Found, Missing, Ha
 use Rattle.characters.specs.declared.tokens.Must.{Must}
 use Rattle.characters.specs.declared.tokens.Must.TheVariants.{Taken, Failed}
 use Rattle.characters.specs.Text.{Text, byte_at, ByteOf, on_by, Stands}
-use Rattle.characters.specs.PlaceLaws.{Reached, at_end, from_end}
+use Rattle.characters.specs.PlaceLaws.{Reached}
 use Rattle.characters.specs.Blanks.{blanks}
 use Rattle.characters.specs.BlankLaws.{PassedOn, blanks_on}
 use Rattle.characters.specs.Names.{is_name_byte}
-use Rattle.characters.specs.Tokens.{spells, found_by, is_token, is_keyword, token_past, token, keyword_past, keyword, needed, expected}
+use Rattle.characters.specs.Tokens.{spells, found_by, token_past, token, keyword_past, keyword, needed, expected}
 use Rattle.characters.specs.TokenLaws.{spells_fits, sign_token}
 
 -- ---- the bytes of a token

@@ -1,8 +1,8 @@
 -- What the readers of names show on the way. Assumes nothing.
-use mathlib.Core.Path.{◌≡◌, refl, sym, ap, subst, subst⁻¹, ◌∙◌}
-use mathlib.Core.Bool.{Bool, true, false, ◌&&◌, ◌||◌, not}
-use mathlib.Core.List.{List, [], ◌∷◌, ◌++◌}
-use Prim.Native.Nat.{ℕ, zero, suc, ◌+◌, ◌-◌, ◌*◌, ◌^◌, min, ◌≤◌, ◌<◌}
+use mathlib.Core.Path.{◌≡◌, refl, sym, ap, subst, ◌∙◌}
+use mathlib.Core.Bool.{Bool, true, false, ◌||◌, not}
+use mathlib.Core.List.{[], ◌∷◌, ◌++◌}
+use Prim.Native.Nat.{ℕ, suc, ◌+◌, ◌-◌, ◌*◌, ◌^◌, min, ◌≤◌, ◌<◌}
 use native.Mathlib.Omega.{arith}
 use lib.Dec.{eqb, leb, ltb}
 use native.Mathlib.Nat.{pow-zero, pow-succ', pow-le-pow_right, mul-one, one-mul, mul_assoc}
@@ -14,7 +14,7 @@ use Rattle.characters.specs.declared.refusal.Refusal.{Refusal}
 use Rattle.characters.specs.declared.refusal.Refusal.TheVariants.{ExpectedIdentifier, ReservedWord}
 use Rattle.characters.specs.declared.tokens.Must.{Must}
 use Rattle.characters.specs.declared.tokens.Must.TheVariants.{Taken, Failed}
-use Rattle.characters.specs.Text.{Text, byte_at, ByteOf, on_by, past, Stands}
+use Rattle.characters.specs.Text.{Text, byte_at, ByteOf, on_by, Stands}
 use Rattle.characters.specs.PlaceLaws.{in_text}
 use Rattle.characters.specs.Counts.{end_of}
 use Rattle.characters.specs.CountLaws.{end_inside}

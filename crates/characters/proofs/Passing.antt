@@ -15,7 +15,7 @@ use Rattle.characters.specs.Text.{Text, byte_at, ByteOf, on_by, line_on, past, S
 use Rattle.characters.specs.PlaceLaws.{Advanced, Reached, reached_here, reached_on, advanced_reached, past_line, past_low, past_offset, on_by_stands}
 use Rattle.characters.specs.Counts.{end_of}
 use Rattle.characters.specs.CountLaws.{run_bytes}
-use Rattle.characters.specs.Blanks.{is_blank, Mode, between, line, block, out, blanks, spaces, is_in_line, line_end, file_start}
+use Rattle.characters.specs.Blanks.{is_blank, Mode, between, block, out, blanks, spaces, is_in_line, line_end, file_start}
 use Rattle.characters.specs.BlankLaws.{pass_from, over_blank, spaces_on, spaces_end, over_spaces, opens_line, opens_block, deeper, closes, in_block, at_token, at_slash, unclosed, out_in, by_line, line_end_on, line_end_in, line_end_end, no_line, Closes, spaced, spaced_stands}
 use Rattle.characters.proofs.Places.{ended, not_ended, byte_in, stepped}
 

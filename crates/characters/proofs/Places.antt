@@ -1,13 +1,13 @@
 -- What the steps from place to place show on the way. Assumes nothing.
 use mathlib.Core.Path.{◌≡◌, refl, sym, ap, subst⁻¹, ◌∙◌}
 use mathlib.Core.Bool.{Bool, true, false}
-use Prim.Native.Nat.{ℕ, ◌+◌, ◌-◌, ◌≤◌, ◌<◌, ◌^◌}
+use Prim.Native.Nat.{ℕ, ◌+◌, ◌-◌, ◌≤◌, ◌<◌}
 use native.Mathlib.Omega.{arith}
-use lib.Dec.{leb, ltb}
+use lib.Dec.{ltb}
 use lib.ListN.{length, drop}
-use borrow.Author.Tests.{ltb-true, ltb-false, lt-leb, le-ltb, le-leb, lt-ltb}
+use borrow.Author.Tests.{ltb-true, ltb-false, lt-leb, le-ltb, le-leb}
 use Rattle.characters.specs.declared.place.Place.{Place}
-use Rattle.characters.specs.Text.{Text, byte_at, ByteOf, is_tail, on_by, past, tails, next, Stands}
+use Rattle.characters.specs.Text.{Text, ByteOf, is_tail, on_by, past, tails, next, Stands}
 use Rattle.characters.specs.PlaceLaws.{Advanced, Reached, in_text, past_offset, past_stands, tails_on, tails_end, next_end, next_in, on_by_stands}
 
 -- where the byte is 256 the text has ended

@@ -1,14 +1,14 @@
 -- The reserved words' tables: one computed test over the 28 words, and what it says of every name. Assumes nothing.
 use mathlib.Core.Path.{◌≡◌, refl, sym, ap, subst, subst⁻¹, ◌∙◌}
 use mathlib.Core.Bool.{Bool, true, false, ◌&&◌}
-use mathlib.Core.List.{List, [], ◌∷◌, map}
+use mathlib.Core.List.{List, [], ◌∷◌}
 use mathlib.Core.Logic.{◌⊎◌, inl, inr}
-use Prim.Native.Nat.{ℕ, zero, suc, ◌+◌, ◌-◌, ◌*◌, ◌%◌, ◌≤◌, ◌<◌}
+use Prim.Native.Nat.{ℕ, zero, suc, ◌+◌, ◌-◌, ◌*◌, ◌≤◌, ◌<◌}
 use native.Mathlib.Omega.{arith}
 use lib.Dec.{eqb, leb, ltb}
 use lib.ListN.{length, take, drop, get_or, length-drop}
 use lib.Seq.{get_or-drop, drop-drop}
-use borrow.Author.Tests.{eqb-true, leb-true, ltb-true, ltb-false}
+use borrow.Author.Tests.{eqb-true, leb-true, ltb-true}
 use Rattle.characters.specs.Text.{Text, byte_at, ByteOf}
 use Rattle.characters.specs.PlaceLaws.{get_d_any}
 use Rattle.characters.specs.Names.{part, same, reserved, numbered, word_of, fold_of}

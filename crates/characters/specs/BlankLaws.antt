@@ -1,20 +1,19 @@
 -- Laws of blanks: how one byte of them leads to the next, and that they end further on in the text. Assumes nothing.
 use Rattle.std.specs.Prelude.{◌≡◌, Bool, ◌&&◌, ◌||◌, not, eqb, length}
 use Rattle.std.proofs.Math.Path.{refl, ap, subst⁻¹}
-use Rattle.std.proofs.Common.{sym, subst, ◌∙◌, arith, add-one, sub-one, drop_of_length-le, length-drop, drop-cons, drop-drop, eq-eqb, ne_eqb, eqb-true, ltb-true, ltb-false}
+use Rattle.std.proofs.Common.{sym, ◌∙◌, arith, add-one, sub-one, length-drop, drop-cons, drop-drop, eq-eqb, ne_eqb, eqb-true, ltb-true, ltb-false}
 use Rattle.std.proofs.Math.Bool.{true, false}
-use mathlib.Core.List.{List, [], ◌∷◌}
+use mathlib.Core.List.{[], ◌∷◌}
 use Prim.Native.Nat.{ℕ, zero, suc, ◌+◌, ◌-◌, ◌≤◌, ◌<◌}
 use Rattle.std.proofs.Math.Dec.{ltb}
 use Rattle.std.proofs.Math.ListN.{drop}
 use Rattle.std.proofs.lemmas.Bool.{eqb-false}
 use Rattle.characters.specs.declared.place.Place.{Place}
-use Rattle.characters.specs.declared.refusal.Refusal.{Refusal}
 use Rattle.characters.specs.declared.refusal.Refusal.TheVariants.{EndOfInput}
 use Rattle.characters.specs.declared.tokens.Must.{Must}
 use Rattle.characters.specs.declared.tokens.Must.TheVariants.{Taken, Failed}
-use Rattle.characters.specs.Text.{Text, byte_at, ByteOf, on_by, past, Stands, start}
-use Rattle.characters.specs.PlaceLaws.{Reached, Advanced, reached_here, reached_on, advanced_on, advanced_reached, in_text, at_end, from_byte, from_end, front, past_line, past_low, past_offset, past_line_same, past_stands, on_by_stands, on_by_none, on_by_on_by}
+use Rattle.characters.specs.Text.{Text, byte_at, ByteOf, on_by, past, Stands}
+use Rattle.characters.specs.PlaceLaws.{Reached, Advanced, reached_here, reached_on, advanced_reached, from_byte, from_end, front, past_line, past_low, past_offset, past_line_same, past_stands, on_by_stands, on_by_none, on_by_on_by}
 use Rattle.characters.specs.Counts.{count_of, end_of}
 use Rattle.characters.specs.CountLaws.{count_yes, count_no, count_none}
 use Rattle.characters.specs.Blanks.{is_blank, begins, Mode, between, line, block, passing, out, pass, blanks, spaces_in, spaces, opens_blank, is_in_line, line_end}

@@ -1,15 +1,15 @@
 -- Laws of several bytes as one number: no top bit, no byte above ASCII. Assumes nothing.
-use Rattle.std.specs.Prelude.{◌≡◌, refl, Bool, true, false, ltb, eqb}
+use Rattle.std.specs.Prelude.{◌≡◌, refl}
 use Rattle.std.proofs.Math.Path.{sym}
 use Rattle.std.proofs.Common.{ap, ◌∙◌}
-use Prim.Native.Nat.{ℕ, zero, suc, ◌+◌, ◌-◌, ◌*◌, ◌/◌, ◌%◌, ◌≤◌, ◌<◌}
+use Prim.Native.Nat.{ℕ, zero, suc, ◌+◌, ◌*◌, ◌/◌, ◌%◌, ◌<◌}
 use native.Mathlib.Omega.{arith}
 use Rattle.std.specs.Int.Bits.{bit_and}
 use Rattle.std.proofs.lemmas.Nat.{and_block}
 use Rattle.std.proofs.lemmas.Nat.Bits.{and_high}
 use Rattle.std.proofs.Math.ListN.{get_or}
-use borrow.Author.Tests.{lt-ltb, eqb-true, eqb-false}
-use Rattle.characters.specs.Text.{Text, is_ascii}
+use borrow.Author.Tests.{lt-ltb}
+use Rattle.characters.specs.Text.{Text}
 use Rattle.characters.specs.Eights.{digits_from, top_bits, Low}
 
 -- a byte without its top bit

@@ -1,23 +1,22 @@
 -- Laws of names: what their bytes are, where they end, and that a keyword is a name. Assumes nothing.
-use Rattle.std.specs.Prelude.{◌≡◌, refl, Bool, true, false, ◌&&◌, ◌||◌, not, ℕ, zero, suc, ◌+◌, ◌-◌, ◌*◌, ◌≤◌, ◌<◌, eqb, leb, ltb, length, take, get_or}
-use Rattle.std.proofs.Common.{sym, subst, ◌∙◌, add-one, eq-eqb, ne_eqb, eqb-true, ltb-true, ltb-false, le-leb, leb-true}
-use Rattle.std.proofs.Math.Path.{ap, subst⁻¹}
-use mathlib.Core.List.{List, [], ◌∷◌}
+use Rattle.std.specs.Prelude.{◌≡◌, refl, Bool, true, false, ◌&&◌, ◌||◌, not, ℕ, suc, ◌+◌, ◌-◌, ◌<◌, eqb, ltb, length, take}
+use Rattle.std.proofs.Common.{sym, ◌∙◌, ne_eqb, eqb-true, ltb-true, ltb-false, le-leb}
+use Rattle.std.proofs.Math.Path.{ap}
+use mathlib.Core.List.{[], ◌∷◌}
 use native.Mathlib.Omega.{arith}
 use Rattle.std.proofs.Math.ListN.{drop}
-use Rattle.std.proofs.lemmas.Bool.{eqb-false, lt-leb}
+use Rattle.std.proofs.lemmas.Bool.{lt-leb}
 use Rattle.characters.specs.declared.place.Place.{Place}
-use Rattle.characters.specs.declared.refusal.Refusal.{Refusal}
 use Rattle.characters.specs.declared.refusal.Refusal.TheVariants.{ExpectedIdentifier}
 use Rattle.characters.specs.declared.tokens.Must.{Must}
 use Rattle.characters.specs.declared.tokens.Must.TheVariants.{Taken, Failed}
 use Rattle.characters.specs.Text.{Text, byte_at, on_by, past, Stands}
-use Rattle.characters.specs.PlaceLaws.{Reached, Advanced, reached_here, reached_on, advanced_on, advanced_reached, in_text, at_end, from_byte, from_end, front, past_low, past_offset, past_stands, on_by_none, on_by_on_by}
+use Rattle.characters.specs.PlaceLaws.{Reached, Advanced, reached_here, reached_on, advanced_reached, from_byte, past_low, past_offset, past_stands, on_by_none, on_by_on_by}
 use Rattle.characters.specs.Counts.{count_of, end_of}
 use Rattle.characters.specs.CountLaws.{count_yes, count_no, count_none}
 use Rattle.characters.specs.BlankLaws.{rest}
-use Rattle.characters.specs.Names.{is_digit, is_small, is_letter, is_name_byte, along, run, name_by, name, part, same, reserved, numbered, word_of}
-use Rattle.characters.specs.Tokens.{spells, is_keyword}
+use Rattle.characters.specs.Names.{is_small, is_letter, is_name_byte, along, run, name_by, name, part, same}
+use Rattle.characters.specs.Tokens.{spells}
 
 -- ---- the bytes of a name
 

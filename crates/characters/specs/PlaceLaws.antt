@@ -1,11 +1,10 @@
 -- Laws of places: what a step keeps. Assumes nothing.
-use Rattle.std.specs.Prelude.{◌≡◌, refl, Bool, true, false, ◌&&◌, List, [], ◌∷◌, ℕ, zero, suc, ◌+◌, ◌≤◌, ◌<◌, ◌^◌, leb, ltb, eqb, length, get_or, drop}
-use Rattle.std.proofs.Common.{sym, ap, subst, ◌∙◌, arith, add-one, drop_of_length-le, drop-cons, ltb-true, ltb-false, eqb-true, lt-ltb, le-ltb, le-leb, ne_eqb, eq-eqb}
-use Rattle.std.proofs.Math.Path.{subst⁻¹}
+use Rattle.std.specs.Prelude.{◌≡◌, refl, Bool, true, false, List, [], ◌∷◌, ℕ, zero, suc, ◌+◌, ◌≤◌, ◌<◌, ◌^◌, ltb, eqb, length, get_or, drop}
+use Rattle.std.proofs.Common.{sym, ap, ◌∙◌, arith, add-one, drop_of_length-le, drop-cons, ltb-true, ltb-false, lt-ltb, le-ltb, le-leb, ne_eqb, eq-eqb}
 use Rattle.std.proofs.Math.ListN.{get_or-eq_default}
 use Rattle.std.proofs.lemmas.Bool.{lt-leb}
 use Rattle.characters.specs.declared.place.Place.{Place}
-use Rattle.characters.specs.Text.{Text, byte_at, on_by, line_on, tail_on, is_tail, past_by, past, tails, next_by, next, past_end, ByteOf, Stands}
+use Rattle.characters.specs.Text.{Text, byte_at, on_by, line_on, tail_on, is_tail, past_by, past, tails, next_by, next, past_end, Stands}
 
 -- a place further on in the text, or the same
 pub record Reached (s : Text) (p q : Place) : Type 0 where

@@ -1,7 +1,6 @@
 -- Laws of tokens: where they lead. Assumes nothing.
-use Rattle.std.specs.Prelude.{◌≡◌, refl, Bool, true, false, ◌&&◌, not, List, [], ◌∷◌, ℕ, zero, suc, ◌+◌, ◌-◌, ◌≤◌, ◌<◌, eqb, ltb, length, get_or, drop}
-use Rattle.std.proofs.Common.{sym, ap, subst, ◌∙◌, arith, length-drop, drop-cons, ne_eqb, ltb-true, ltb-false}
-use Rattle.std.proofs.Math.Path.{subst⁻¹}
+use Rattle.std.specs.Prelude.{◌≡◌, refl, Bool, true, false, ◌&&◌, not, [], ◌∷◌, ℕ, ◌+◌, ◌≤◌, ◌<◌, eqb, ltb, length, drop}
+use Rattle.std.proofs.Common.{sym, ap, ◌∙◌, arith, length-drop, drop-cons, ne_eqb, ltb-true, ltb-false}
 use Rattle.characters.specs.declared.place.Place.{Place}
 use Rattle.characters.specs.declared.refusal.Refusal.TheVariants.{EndOfInput}
 use Rattle.characters.specs.declared.tokens.Look.{Look}
@@ -13,7 +12,7 @@ use Rattle.characters.specs.PlaceLaws.{Reached, at_end, from_end, on_by_stands}
 use Rattle.characters.specs.Blanks.{blanks}
 use Rattle.characters.specs.BlankLaws.{PassedOn, blanks_on}
 use Rattle.characters.specs.Names.{is_name_byte}
-use Rattle.characters.specs.Tokens.{spells, found_by, is_token, is_keyword, token_past, token, keyword_past, keyword, needed, expected}
+use Rattle.characters.specs.Tokens.{spells, found_by, is_token, is_keyword, token_past, token, keyword_past, keyword}
 
 pub spells_fits : (w t : Text) → spells w t ≡ true → length w ≤ length t
 unfolding spells

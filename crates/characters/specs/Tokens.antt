@@ -1,5 +1,5 @@
 -- Tokens and keywords: what may stand past the blanks. Assumes nothing.
-use Rattle.std.specs.Prelude.{Bool, true, false, ◌&&◌, not, List, [], ◌∷◌, ℕ, ◌+◌, eqb, length, drop}
+use Rattle.std.specs.Prelude.{Bool, true, false, ◌&&◌, not, [], ◌∷◌, ℕ, ◌+◌, eqb, length, drop}
 use Rattle.characters.specs.declared.place.Place.{Place}
 use Rattle.characters.specs.declared.refusal.Refusal.TheVariants.{ExpectedToken}
 use Rattle.characters.specs.declared.tokens.Look.{Look}

@@ -1,8 +1,8 @@
 -- `block_end` goes past a comment, whose inner comments nest. Assumes nothing.
-use Rattle.std.proofs.Common.{◌-◌, length, arith, rules}
+use Rattle.std.proofs.Common.{arith}
 use Rattle.characters.proofs.Places.{on_less, not_ended, stepped}
 use Rattle.characters.specs.PlaceLaws.{room}
-use Rattle.characters.proofs.Passing.{InBlock, two, block_opens, block_step, block_sign, block_deeper, block_less, block_closed, block_fails}
+use Rattle.characters.proofs.Passing.{two, block_opens, block_step, block_sign, block_deeper, block_less, block_closed, block_fails}
 use Rattle.characters.proofs.blanks.block_end.Goals as goal
 
 pub on-p-requires : goal.on-p-requires

@@ -1,5 +1,5 @@
 -- `file_start` passes over a first line that opens with `#!`. Assumes nothing.
-use Rattle.std.proofs.Common.{ap, sym, ◌∙◌, drop, rules}
+use Rattle.std.proofs.Common.{ap, sym, ◌∙◌, drop}
 use mathlib.Core.Path.{subst⁻¹}
 use Rattle.characters.specs.declared.place.Place.{Place}
 use Rattle.characters.specs.Blanks.{line_end}

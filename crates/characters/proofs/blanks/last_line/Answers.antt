@@ -1,8 +1,8 @@
 -- `last_line` goes along a line to the end of the text. Assumes nothing.
-use Rattle.std.proofs.Common.{refl, ◌-◌, length, arith, rules}
+use Rattle.std.proofs.Common.{refl, arith}
 use Rattle.characters.specs.PlaceLaws.{room}
 use Rattle.characters.proofs.Places.{not_ended, stepped}
-use Rattle.characters.proofs.Passing.{InLine, line_step, line_out}
+use Rattle.characters.proofs.Passing.{line_step, line_out}
 use Rattle.characters.proofs.blanks.last_line.Goals as goal
 
 pub loop-p-init : goal.loop-p-init

@@ -1,8 +1,6 @@
 -- `last_line` goes along a line to the end of the text. Assumes nothing.
-use Rattle.std.proofs.Common.{refl, ◌-◌, length, arith, rules}
-use Rattle.characters.specs.PlaceLaws.{room}
-use Rattle.characters.proofs.Places.{not_ended, stepped}
-use Rattle.characters.proofs.Passing.{InLine, line_step, line_out}
+use Rattle.std.proofs.Common.{◌-◌, length}
+use Rattle.characters.proofs.Passing.{InLine}
 use Rattle.characters.proofs.blanks.last_line.Given as goal
 
 abbrev pub invariant-loop-p : goal.invariant-loop-p

@@ -1,5 +1,4 @@
 -- `line_end` goes to where the line stops, and past an LF there. Assumes nothing.
-use Rattle.std.proofs.Common.{rules}
 use Rattle.characters.specs.BlankLaws.{line_by_stop}
 use Rattle.characters.proofs.blanks.line_end.Goals as goal
 

@@ -1,8 +1,7 @@
 -- `line_stop` goes along a line, to its LF. Assumes nothing.
-use Rattle.std.proofs.Common.{refl, sym, ◌+◌, ◌-◌, length, arith, rules}
+use Rattle.std.proofs.Common.{◌-◌, length}
 use Rattle.characters.specs.Blanks.{is_in_line}
-use Rattle.characters.specs.BlankLaws.{in_line, no_line}
-use Rattle.characters.specs.CountLaws.{In, run_starts, run_on, run_ends, run_out}
+use Rattle.characters.specs.CountLaws.{In}
 use Rattle.characters.proofs.blanks.line_stop.Given as goal
 
 abbrev pub invariant-loop-i : goal.invariant-loop-i

@@ -1,11 +1,11 @@
 -- `skip` goes past blanks. Assumes nothing.
-use Rattle.std.proofs.Common.{refl, ap, sym, ◌∙◌, ◌-◌, length, arith, rules}
+use Rattle.std.proofs.Common.{refl, ap, sym, ◌∙◌, arith}
 use Rattle.characters.specs.declared.place.Place.{Place}
 use Rattle.characters.specs.PlaceLaws.{room}
 use Rattle.characters.specs.Blanks.{is_blank}
 use Rattle.characters.specs.BlankLaws.{not_blank, spaced_stands}
 use Rattle.characters.proofs.Places.{on_less, less}
-use Rattle.characters.proofs.Passing.{InBlanks, space_here, blanks_begin, blank_on, blank_spaces, blank_line, comment_line, comment_closed, comment_fails, token_here, slash_here}
+use Rattle.characters.proofs.Passing.{space_here, blanks_begin, blank_on, blank_spaces, blank_line, comment_line, comment_closed, comment_fails, token_here, slash_here}
 use Rattle.characters.proofs.blanks.skip.Goals as goal
 
 pub loop-n-init : goal.loop-n-init
@@ -84,7 +84,7 @@ pub returns-in-Failed : goal.returns-in-Failed
 returns-in-Failed c = comment_fails c.loop-n.invariant c.block_end-closed.ensures c.in-Failed.is
 
 pub returns-in_default-c : goal.returns-in_default-c
-returns-in_default-c c = slash_here c.loop-n.invariant c.byte-b.ensures c.in-47.is c.byte-c.ensures c.in_default-c.in_default-c-own.in_default-c-own-own.rest.0.1 c.in_default-c.in_default-c-own.in_default-c-own-own.rest.1
+returns-in_default-c c = slash_here c.loop-n.invariant c.byte-b.ensures c.in-47.is c.byte-c.ensures c.in_default-c.in_default-c-own.rest.0.1 c.in_default-c.in_default-c-own.rest.1
 
 pub returns-in_default : goal.returns-in_default
 returns-in_default c = token_here c.loop-n.invariant c.byte-b.ensures (not_blank _ c.in_default.in_default-own.rest.0.0.0.0.0.1 c.in_default.in_default-own.rest.0.0.0.1 c.in_default.in_default-own.rest.0.0.0.0.1 c.in_default.in_default-own.rest.0.0.1 c.in_default.in_default-own.rest.0.1) c.in_default.in_default-own.rest.1

@@ -1,7 +1,7 @@
 -- `spaces` counts spaces: what is counted and what is left make up the whole run. Assumes nothing.
-use Rattle.std.proofs.Common.{refl, ◌-◌, length, arith, rules}
+use Rattle.std.proofs.Common.{refl, arith}
 use Rattle.characters.proofs.Places.{byte_in}
-use Rattle.characters.proofs.Passing.{InSpaces, space_step, space_out}
+use Rattle.characters.proofs.Passing.{space_step, space_out}
 use Rattle.characters.proofs.blanks.spaces.Goals as goal
 
 pub loop-o-init : goal.loop-o-init

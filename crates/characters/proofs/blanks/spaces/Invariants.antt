@@ -1,7 +1,6 @@
 -- `spaces` counts spaces: what is counted and what is left make up the whole run. Assumes nothing.
-use Rattle.std.proofs.Common.{refl, ◌-◌, length, arith, rules}
-use Rattle.characters.proofs.Places.{byte_in}
-use Rattle.characters.proofs.Passing.{InSpaces, space_step, space_out}
+use Rattle.std.proofs.Common.{◌-◌, length}
+use Rattle.characters.proofs.Passing.{InSpaces}
 use Rattle.characters.proofs.blanks.spaces.Given as goal
 
 abbrev pub invariant-loop-o : goal.invariant-loop-o

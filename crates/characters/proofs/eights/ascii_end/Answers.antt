@@ -1,8 +1,8 @@
 -- `ascii_end` goes along ASCII bytes, by eights and then one by one. Assumes nothing.
-use Rattle.std.proofs.Common.{refl, sym, ◌-◌, length, arith, lt-ltb, le-ltb, rules}
+use Rattle.std.proofs.Common.{refl, sym, arith, lt-ltb, le-ltb}
 use borrow.Author.Tests.{not-false}
 use Rattle.characters.specs.Text.{is_ascii}
-use Rattle.characters.specs.CountLaws.{In, run_starts, run_on, run_many, run_ends, run_out}
+use Rattle.characters.specs.CountLaws.{run_starts, run_on, run_many, run_ends, run_out}
 use Rattle.characters.proofs.eights.ascii_end.Goals as goal
 
 pub loop-i-init : goal.loop-i-init

@@ -1,8 +1,7 @@
 -- `ascii_end` goes along ASCII bytes, by eights and then one by one. Assumes nothing.
-use Rattle.std.proofs.Common.{refl, sym, ◌-◌, length, arith, lt-ltb, le-ltb, rules}
-use borrow.Author.Tests.{not-false}
+use Rattle.std.proofs.Common.{◌-◌, length}
 use Rattle.characters.specs.Text.{is_ascii}
-use Rattle.characters.specs.CountLaws.{In, run_starts, run_on, run_many, run_ends, run_out}
+use Rattle.characters.specs.CountLaws.{In}
 use Rattle.characters.proofs.eights.ascii_end.Given as goal
 
 abbrev pub invariant-loop-i : goal.invariant-loop-i

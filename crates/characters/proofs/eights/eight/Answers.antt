@@ -1,5 +1,4 @@
 -- `eight` adds up eight bytes. Assumes nothing.
-use Rattle.std.proofs.Common.{rules}
 use Rattle.characters.specs.EightLaws.{eight_is}
 use Rattle.characters.proofs.eights.eight.Goals as goal
 

@@ -1,9 +1,9 @@
 -- `wide` reads a byte. Assumes nothing.
-use Rattle.std.proofs.Common.{refl, arith, rules}
+use Rattle.std.proofs.Common.{refl, arith}
 use Rattle.characters.proofs.eights.wide.Goals as goal
 
 pub overflow_cast-result : goal.overflow_cast-result
-overflow_cast-result c = omega (arith, c.shared_slice_known-1.given c.args.i)
+overflow_cast-result c = omega (arith, c.type_inv.text c.args.i)
 
 pub returns : goal.returns
-returns c = record { is = refl; small = omega (arith, c.shared_slice_known-1.given c.args.i) }
+returns c = record { is = refl; small = omega (arith, c.type_inv.text c.args.i) }

@@ -1,6 +1,6 @@
 -- `fold` makes one number of at most eight bytes. Assumes nothing.
-use Rattle.std.proofs.Common.{◌-◌, arith, rules}
-use Rattle.characters.proofs.Naming.{Folding, folding_starts, folding_room, folding_on, folded}
+use Rattle.std.proofs.Common.{◌-◌}
+use Rattle.characters.proofs.Naming.{Folding}
 use Rattle.characters.proofs.names.fold.Given as goal
 
 abbrev pub invariant-loop-i : goal.invariant-loop-i

@@ -1,5 +1,4 @@
 -- `free_name` bars the reserved words. Assumes nothing.
-use Rattle.std.proofs.Common.{rules}
 use Rattle.characters.proofs.Naming.{name_spans, free_fails, free_yes, free_no}
 use Rattle.characters.proofs.names.free_name.Goals as goal
 

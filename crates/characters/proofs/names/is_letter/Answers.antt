@@ -1,5 +1,4 @@
 -- `is_letter` knows the letters and `_`. Assumes nothing.
-use Rattle.std.proofs.Common.{rules}
 use Rattle.characters.proofs.Naming.{letter_lower, letter_low, letter_upper, letter_between}
 use Rattle.characters.proofs.names.is_letter.Goals as goal
 

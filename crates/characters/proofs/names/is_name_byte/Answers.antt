@@ -1,5 +1,5 @@
 -- `is_name_byte` knows the letters, digits and `_`. Assumes nothing.
-use Rattle.std.proofs.Common.{arith, rules}
+use Rattle.std.proofs.Common.{arith}
 use Rattle.characters.proofs.Naming.{letter_lower, letter_low, letter_upper, letter_between, no_digit, under_digits, digit_is}
 use Rattle.characters.proofs.names.is_name_byte.Goals as goal
 

@@ -1,5 +1,5 @@
 -- `is_small` knows the small letters. Assumes nothing.
-use Rattle.std.proofs.Common.{refl, le-leb, rules}
+use Rattle.std.proofs.Common.{refl, le-leb}
 use borrow.Author.Tests.{lt-leb}
 use Rattle.characters.proofs.names.is_small.Goals as goal
 

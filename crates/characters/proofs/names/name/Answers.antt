@@ -1,5 +1,5 @@
 -- `name` tests the first letter and steps to where the name's bytes end. Assumes nothing.
-use Rattle.std.proofs.Common.{arith, rules}
+use Rattle.std.proofs.Common.{arith}
 use Rattle.characters.proofs.Naming.{letter_inside, name_room, name_ends, name_none}
 use Rattle.characters.proofs.names.name.Goals as goal
 

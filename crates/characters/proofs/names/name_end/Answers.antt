@@ -1,22 +1,27 @@
 -- `name_end` goes along the bytes of a name. Assumes nothing.
-use Rattle.std.proofs.Common.{refl, sym, ◌∙◌, ⊎_elim, ◌-◌, length, get_or, arith, rules}
+use Rattle.std.proofs.Common.{refl, sym, ◌∙◌, get_or, arith}
 use borrow.Author.Tests.{not-false}
 use Rattle.characters.specs.Names.{is_name_byte}
 use Rattle.characters.specs.NameLaws.{small_is_name}
-use Rattle.characters.specs.CountLaws.{In, run_starts, run_on, run_ends, run_out}
+use Rattle.characters.specs.CountLaws.{run_starts, run_on, run_ends, run_out}
 use Rattle.characters.proofs.names.name_end.Goals as goal
+use Rattle.characters.proofs.names.name_end.Goals.{then-not-is_small+else-not-is_name_byte, else-not-is_small}
 
 pub loop-i-init : goal.loop-i-init
 loop-i-init c = run_starts is_name_byte _ c.requires.0
 
 pub overflow_cast-c : goal.overflow_cast-c
-overflow_cast-c c = omega (arith, c.shared_slice_known-in-loop-i-1.given c.loop-i.i)
+overflow_cast-c c = omega (arith, c.type_inv.text c.loop-i.i)
 
 pub returns-then-not-is_name_byte : goal.returns-then-not-is_name_byte
 returns-then-not-is_name_byte c = run_ends is_name_byte c.args.text.now _ c.loop-i.invariant c.is_name_byte.ensures c.if-not-is_name_byte.true-raw refl c.loop-i-test.true
 
 pub loop-i-preserved : goal.loop-i-preserved
-loop-i-preserved c = ⊎_elim (λ w. run_on is_name_byte c.args.text.now _ c.loop-i.invariant w.1.ensures w.2.left refl c.loop-i-test.true) (λ w. run_on is_name_byte c.args.text.now _ c.loop-i.invariant (sym (small_is_name (get_or c.args.text.now c.loop-i.i 0) (sym c.is_small.ensures ∙ not-false _ w.left))) refl refl c.loop-i-test.true) c.if-not-is_small.branch
+loop-i-preserved c =
+    elim c.if-not-is_small.branch [
+      | then-not-is_small+else-not-is_name_byte w ↦ run_on is_name_byte c.args.text.now _ c.loop-i.invariant w.is_name_byte.ensures w.if-not-is_name_byte.false-raw refl c.loop-i-test.true
+      | else-not-is_small w ↦ run_on is_name_byte c.args.text.now _ c.loop-i.invariant (sym (small_is_name (get_or c.args.text.now c.loop-i.i 0) (sym c.is_small.ensures ∙ not-false _ w.if-not-is_small.false-raw))) refl refl c.loop-i-test.true
+    ]
 
 pub returns : goal.returns
 returns c = run_out is_name_byte c.args.text.now _ c.loop-i.invariant refl c.loop-i-test.false

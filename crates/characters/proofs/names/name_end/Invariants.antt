@@ -1,9 +1,7 @@
 -- `name_end` goes along the bytes of a name. Assumes nothing.
-use Rattle.std.proofs.Common.{refl, sym, ◌∙◌, ⊎_elim, ◌-◌, length, get_or, arith, rules}
-use borrow.Author.Tests.{not-false}
+use Rattle.std.proofs.Common.{◌-◌, length}
 use Rattle.characters.specs.Names.{is_name_byte}
-use Rattle.characters.specs.NameLaws.{small_is_name}
-use Rattle.characters.specs.CountLaws.{In, run_starts, run_on, run_ends, run_out}
+use Rattle.characters.specs.CountLaws.{In}
 use Rattle.characters.proofs.names.name_end.Given as goal
 
 abbrev pub invariant-loop-i : goal.invariant-loop-i

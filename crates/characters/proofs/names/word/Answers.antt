@@ -1,5 +1,5 @@
 -- `word` looks into the one slot that a name can be in. Assumes nothing.
-use Rattle.std.proofs.Common.{arith, rules}
+use Rattle.std.proofs.Common.{arith}
 use Rattle.characters.proofs.Words.{other_head, empty_slot, other_rest, the_word, too_short, too_long}
 use Rattle.characters.proofs.names.word.Goals as goal
 
@@ -37,4 +37,4 @@ pub returns-then-rest_at-rest : goal.returns-then-rest_at-rest
 returns-then-rest_at-rest c = other_rest _ _ _ c.requires.0 c.requires.1 _ _ c.byte-a.ensures c.byte-b.ensures c.if-n-lt2.false _ _ _ c.slot_at-k.ensures.0 c.rest_at.ensures c.fold-rest.ensures c.if-rest_at-rest.true
 
 pub returns : goal.returns
-returns c = the_word _ _ _ c.requires.0 c.requires.1 _ _ c.byte-a.ensures c.byte-b.ensures c.if-n-lt2.false (λ i. omega (arith, c.shared_slice_known-1.given i)) _ _ _ _ c.slot_at-k.ensures.0 c.head_at.ensures c.if-head_at-head.false c.rest_at.ensures c.fold-rest.ensures c.if-rest_at-rest.false
+returns c = the_word _ _ _ c.requires.0 c.requires.1 _ _ c.byte-a.ensures c.byte-b.ensures c.if-n-lt2.false (λ i. omega (arith, c.type_inv.text i)) _ _ _ _ c.slot_at-k.ensures.0 c.head_at.ensures c.if-head_at-head.false c.rest_at.ensures c.fold-rest.ensures c.if-rest_at-rest.false

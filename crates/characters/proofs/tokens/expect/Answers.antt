@@ -1,5 +1,4 @@
 -- `expect` refuses where the token is not. Assumes nothing.
-use Rattle.std.proofs.Common.{rules}
 use Rattle.characters.proofs.Looking.{expected_by}
 use Rattle.characters.proofs.tokens.expect.Goals as goal
 

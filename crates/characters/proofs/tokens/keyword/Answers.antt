@@ -1,5 +1,5 @@
 -- `keyword` skips the blanks, tests, looks at what follows and steps. Assumes nothing.
-use Rattle.std.proofs.Common.{arith, rules}
+use Rattle.std.proofs.Common.{arith}
 use borrow.Author.Tests.{not-true, not-false}
 use Rattle.characters.proofs.Looking.{passed, fits_after, keyword_missing, keyword_goes_on, keyword_found, keyword_halts}
 use Rattle.characters.proofs.tokens.keyword.Goals as goal

@@ -1,5 +1,4 @@
 -- `need` refuses where the byte is not. Assumes nothing.
-use Rattle.std.proofs.Common.{rules}
 use Rattle.characters.proofs.Looking.{expected_by}
 use Rattle.characters.proofs.tokens.need.Goals as goal
 

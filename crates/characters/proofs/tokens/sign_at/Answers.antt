@@ -1,5 +1,5 @@
 -- `sign_at` finds its byte or misses it. Assumes nothing.
-use Rattle.std.proofs.Common.{refl, ap, eq-eqb, ne_eqb, rules}
+use Rattle.std.proofs.Common.{refl, ap, eq-eqb, ne_eqb}
 use Rattle.characters.specs.declared.tokens.Look.TheVariants.{Found}
 use Rattle.characters.proofs.tokens.sign_at.Goals as goal
 

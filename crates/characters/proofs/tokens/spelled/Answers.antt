@@ -1,6 +1,6 @@
 -- `spelled` compares byte by byte. Assumes nothing.
-use Rattle.std.proofs.Common.{◌-◌, length, arith, rules}
-use Rattle.characters.proofs.Looking.{Spelling, spelling_starts, spelling_on, spelling_off, spelled_all, no_room}
+use Rattle.std.proofs.Common.{arith}
+use Rattle.characters.proofs.Looking.{spelling_starts, spelling_on, spelling_off, spelled_all, no_room}
 use Rattle.characters.proofs.tokens.spelled.Goals as goal
 
 pub returns-then-left-w : goal.returns-then-left-w

@@ -1,6 +1,6 @@
 -- `spelled` compares byte by byte. Assumes nothing.
-use Rattle.std.proofs.Common.{◌-◌, length, arith, rules}
-use Rattle.characters.proofs.Looking.{Spelling, spelling_starts, spelling_on, spelling_off, spelled_all, no_room}
+use Rattle.std.proofs.Common.{◌-◌, length}
+use Rattle.characters.proofs.Looking.{Spelling}
 use Rattle.characters.proofs.tokens.spelled.Given as goal
 
 abbrev pub invariant-loop-i : goal.invariant-loop-i

@@ -1,5 +1,5 @@
 -- `token` skips the blanks, tests and steps. Assumes nothing.
-use Rattle.std.proofs.Common.{arith, rules}
+use Rattle.std.proofs.Common.{arith}
 use borrow.Author.Tests.{not-true, not-false}
 use Rattle.characters.specs.PlaceLaws.{room}
 use Rattle.characters.proofs.Looking.{passed, fits_after, token_missing, token_found, token_halts}

@@ -1,5 +1,4 @@
 -- `mark_of` is `mark`, arm by arm. Assumes nothing.
-use Rattle.std.proofs.Common.{rules}
 use Rattle.characters.proofs.Utf8Steps.{mark_high}
 use Rattle.characters.proofs.utf8.mark_of.Goals as goal
 

@@ -1,6 +1,6 @@
 -- `prefix` adds up characters: the length passed, and the prefix of what is left, are the prefix of the text. Assumes nothing.
-use Rattle.std.proofs.Common.{◌-◌, length, arith, rules}
-use Rattle.characters.proofs.Utf8Steps.{Answers, answers_start, answers_ascii, answers_more, answers_stop}
+use Rattle.std.proofs.Common.{arith, rules}
+use Rattle.characters.proofs.Utf8Steps.{answers_start, answers_ascii, answers_more, answers_stop}
 use Rattle.characters.proofs.utf8.prefix.Goals as goal
 
 pub loop-at-init : goal.loop-at-init

@@ -1,6 +1,6 @@
 -- `prefix` adds up characters: the length passed, and the prefix of what is left, are the prefix of the text. Assumes nothing.
-use Rattle.std.proofs.Common.{◌-◌, length, arith, rules}
-use Rattle.characters.proofs.Utf8Steps.{Answers, answers_start, answers_ascii, answers_more, answers_stop}
+use Rattle.std.proofs.Common.{◌-◌, length}
+use Rattle.characters.proofs.Utf8Steps.{Answers}
 use Rattle.characters.proofs.utf8.prefix.Given as goal
 
 abbrev pub invariant-loop-at : goal.invariant-loop-at

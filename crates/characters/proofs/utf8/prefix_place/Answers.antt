@@ -1,5 +1,5 @@
 -- `prefix_place` steps over the bytes of the prefix, one by one. Assumes nothing.
-use Rattle.std.proofs.Common.{◌≡◌, ap, ◌∙◌, ℕ, ◌-◌, ◌≤◌, arith, length, take, rules}
+use Rattle.std.proofs.Common.{◌≡◌, ap, ◌∙◌, ℕ, ◌≤◌, arith, length, take, rules}
 use Rattle.characters.specs.Text.{Text, start}
 use Rattle.characters.specs.Utf8.{prefix_of, place_after}
 use Rattle.characters.specs.Utf8Laws.{prefix_length}
@@ -16,7 +16,7 @@ pub bounds-text-at : goal.bounds-text-at
 bounds-text-at c = let h = within c.args.text.now c.prefix-end.ensures in search rules
 
 pub overflow_cast-text : goal.overflow_cast-text
-overflow_cast-text c = omega (arith, c.shared_slice_known-in-loop-at-1.given c.loop-at.at)
+overflow_cast-text c = omega (arith, c.type_inv.text c.loop-at.at)
 
 pub past-p-requires : goal.past-p-requires
 past-p-requires c = place_room c.args.text.now c.loop-at.at c.loop-at.p c.requires c.loop-at.invariant.1

@@ -1,9 +1,7 @@
 -- `prefix_place` steps over the bytes of the prefix, one by one. Assumes nothing.
-use Rattle.std.proofs.Common.{◌≡◌, ap, ◌∙◌, ℕ, ◌-◌, ◌≤◌, arith, length, take, rules}
-use Rattle.characters.specs.Text.{Text, start}
-use Rattle.characters.specs.Utf8.{prefix_of, place_after}
-use Rattle.characters.specs.Utf8Laws.{prefix_length}
-use Rattle.characters.proofs.Utf8Steps.{place_none, place_more, place_room}
+use Rattle.std.proofs.Common.{◌≡◌, ◌-◌, ◌≤◌, take}
+use Rattle.characters.specs.Text.{start}
+use Rattle.characters.specs.Utf8.{place_after}
 use Rattle.characters.proofs.utf8.prefix_place.Given as goal
 
 abbrev pub invariant-loop-at : goal.invariant-loop-at

@@ -1,7 +1,7 @@
 -- `Place::next` steps over one character: its first byte, then the tails. Assumes nothing.
-use Rattle.std.proofs.Common.{refl, sym, ◌-◌, length, arith, rules}
+use Rattle.std.proofs.Common.{refl, sym, arith}
 use Rattle.characters.specs.PlaceLaws.{room, next_end}
-use Rattle.characters.proofs.Places.{Tailing, ended, not_ended, stepped, tailing_on, next_low, next_high}
+use Rattle.characters.proofs.Places.{ended, not_ended, stepped, tailing_on, next_low, next_high}
 use Rattle.characters.proofs.place.Place.next.Goals as goal
 
 pub overflow_add-column : goal.overflow_add-column

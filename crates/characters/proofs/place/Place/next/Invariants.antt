@@ -1,7 +1,6 @@
 -- `Place::next` steps over one character: its first byte, then the tails. Assumes nothing.
-use Rattle.std.proofs.Common.{refl, sym, ◌-◌, length, arith, rules}
-use Rattle.characters.specs.PlaceLaws.{room, next_end}
-use Rattle.characters.proofs.Places.{Tailing, ended, not_ended, stepped, tailing_on, next_low, next_high}
+use Rattle.std.proofs.Common.{◌-◌, length}
+use Rattle.characters.proofs.Places.{Tailing}
 use Rattle.characters.proofs.place.Place.next.Given as goal
 
 abbrev pub invariant-loop-p : goal.invariant-loop-p

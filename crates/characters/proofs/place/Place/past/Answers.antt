@@ -1,5 +1,5 @@
 -- `Place::past` steps over a byte, whichever it is. Assumes nothing.
-use Rattle.std.proofs.Common.{sym, ◌∙◌, rules}
+use Rattle.std.proofs.Common.{sym, ◌∙◌}
 use Rattle.characters.specs.PlaceLaws.{past_line, past_low, past_tail, past_high}
 use Rattle.characters.proofs.place.Place.past.Goals as goal
 

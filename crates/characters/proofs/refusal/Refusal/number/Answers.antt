@@ -1,5 +1,5 @@
 -- `Refusal::number` gives each refusal its number: each arm computes. Assumes nothing.
-use Rattle.std.proofs.Common.{sym, ap, rules}
+use Rattle.std.proofs.Common.{sym, ap}
 use Rattle.characters.specs.Refusals.{number_of}
 use Rattle.characters.proofs.refusal.Refusal.number.Goals as goal
 

@@ -15,16 +15,16 @@ use Rattle.reading.specs.declared.answer.Got.TheVariants.{Read, Refused}
 use Rattle.reading.specs.Events.{with_id}
 use Rattle.reading.specs.Process.{Process, make, fresh, bind, plain}
 use Rattle.reading.specs.Says.{Makes, Does}
-use Rattle.reading.specs.Laws.Does.{by_make, then, stops, given, does_within}
+use Rattle.reading.proofs.Laws.Does.{by_make, then, stops, given, does_within}
 use Rattle.records.specs.declared.kind.Kind.{Kind}
 use Rattle.records.specs.declared.row.Row.{Row}
 use Rattle.records.specs.Kinds.{number_of}
 use Rattle.records.specs.Rows.{layout, record_of}
 use Rattle.records.specs.Words.{whole_of, low_of, high_of}
 use Rattle.records.specs.Nodes.{Stored, is_leaf, role_by, closure_at, value_of, node_at, out_of, MakesRow}
-use Rattle.records.specs.Laws.Words.{whole_back}
-use Rattle.records.specs.Laws.Rows.{lent_kept}
-use Rattle.records.specs.Laws.Nodes.{stored_made, row_read, leaf_value, closure_earlier, does_length, read_of, refused_of}
+use Rattle.records.proofs.Laws.Words.{whole_back}
+use Rattle.records.proofs.Laws.Rows.{lent_kept}
+use Rattle.records.proofs.Laws.Nodes.{stored_made, row_read, leaf_value, closure_earlier, does_length, read_of, refused_of}
 use Rattle.grammar.specs.declared.leaves.Atom.{Atom}
 use Rattle.grammar.specs.declared.leaves.Atom.TheVariants.{Leaf}
 use Rattle.grammar.specs.Leaves.{leaf_row, atom_of}

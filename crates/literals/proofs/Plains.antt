@@ -1,20 +1,20 @@
 -- What the leaves of plain literals show on the way. Assumes nothing.
-use mathlib.Core.Path.{◌≡◌, refl, sym, ap, subst, ◌∙◌}
+use mathlib.Core.Path.{◌≡◌, refl, sym, ap, ◌∙◌}
 use mathlib.Core.Bool.{Bool, true, false, ◌&&◌, not, and-eq-true_iff}
 use mathlib.Core.List.{[], ◌∷◌}
-use Prim.Native.Nat.{ℕ, zero, suc, ◌+◌, ◌-◌, ◌*◌, ◌^◌, ◌≤◌, ◌<◌}
+use Prim.Native.Nat.{ℕ, suc, ◌+◌, ◌-◌, ◌*◌, ◌^◌, ◌≤◌, ◌<◌}
 use native.Mathlib.Omega.{arith}
 use lib.Dec.{leb, ltb, eqb}
 use lib.ListN.{length, take, drop, get_or}
 use lib.Seq.{drop-cons}
-use borrow.Author.Tests.{leb-true, le-leb, lt-leb, lt-ltb, le-ltb, eq-eqb, ne_eqb, not-true, not-false}
+use borrow.Author.Tests.{leb-true, le-leb, lt-leb, lt-ltb, le-ltb, eq-eqb, ne_eqb}
 use Rattle.characters.specs.Text.{Text, byte_at, ByteOf}
 use Rattle.characters.specs.PlaceLaws.{get_d_any, in_text, at_end}
 use Rattle.characters.specs.Counts.{end_of}
 use Rattle.characters.specs.CountLaws.{In, run_on, run_ends, run_out, run_over, run_bytes}
 use Rattle.characters.specs.Names.{is_digit, is_small, part}
 use Rattle.literals.specs.Strings.{is_quote}
-use Rattle.literals.specs.Plain.{goes_on, is_int, int_end, fraction_end, float_end, Few, value_from, int_value, IntOf, is_itself, is_plain, content_end, string_end}
+use Rattle.literals.specs.Plain.{goes_on, int_end, fraction_end, float_end, Few, value_from, int_value, IntOf, is_itself, is_plain, content_end, string_end}
 use Rattle.literals.specs.PlainLaws.{digit_bounds, int_small, quote_is}
 
 -- ---- where an integer ends

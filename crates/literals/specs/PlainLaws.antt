@@ -1,20 +1,20 @@
 -- Laws of plain literals: where one is found, the rules of all literals read it, to the same end and value. Assumes nothing.
-use Rattle.std.specs.Prelude.{◌≡◌, Bool, ◌&&◌, ◌||◌, not, [], ◌∷◌, ℕ, zero, suc, ◌+◌, ◌-◌, ◌*◌, ◌^◌, ◌≤◌, ◌<◌, leb, ltb, pos, length, take, drop, get_or}
+use Rattle.std.specs.Prelude.{◌≡◌, Bool, ◌&&◌, ◌||◌, not, [], ◌∷◌, ℕ, zero, suc, ◌+◌, ◌-◌, ◌*◌, ◌^◌, ◌≤◌, ◌<◌, leb, ltb, pos, length, take, drop}
 use Rattle.std.proofs.Math.Path.{refl, ap}
-use Rattle.std.proofs.Common.{sym, subst, ◌∙◌, mul-one, one-mul, mul_assoc, drop-cons, drop-drop, get_or-drop, leb-true, ltb-true, ltb-false, le-leb, lt-ltb, eq-eqb, ne_eqb, eqb-true}
+use Rattle.std.proofs.Common.{sym, subst, ◌∙◌, mul-one, one-mul, mul_assoc, drop-drop, get_or-drop, leb-true, ltb-true, ltb-false, le-leb, lt-ltb, eq-eqb, ne_eqb, eqb-true}
 use Rattle.std.proofs.Math.Bool.{true, false, and-eq-true_iff}
 use native.Mathlib.Omega.{arith}
 use Rattle.std.proofs.Math.Nat.{pow-zero, pow-succ', pow-le-pow_right}
 use Rattle.std.proofs.Math.Dec.{eqb}
-use Rattle.std.proofs.lemmas.Bool.{eqb-false, not-true, not-false}
+use Rattle.std.proofs.lemmas.Bool.{eqb-false, not-true}
 use Rattle.characters.specs.declared.place.Place.{Place}
 use Rattle.characters.specs.declared.refusal.Refusal.TheVariants.{ExpectedDigit}
 use Rattle.characters.specs.declared.tokens.Must.TheVariants.{Taken}
 use Rattle.characters.specs.Text.{Text, byte_at, on_by, past}
-use Rattle.characters.specs.PlaceLaws.{in_text, from_byte, front, past_low, on_by_none, on_by_on_by}
+use Rattle.characters.specs.PlaceLaws.{in_text, from_byte, past_low, on_by_none, on_by_on_by}
 use Rattle.characters.specs.Counts.{count_of, end_of}
 use Rattle.characters.specs.CountLaws.{count_yes, count_no, count_none, end_inside, run_bytes}
-use Rattle.characters.specs.Names.{is_digit, is_small, is_name_byte, part}
+use Rattle.characters.specs.Names.{is_digit, is_name_byte}
 use Rattle.literals.specs.declared.numbers.Run.TheVariants.{Digits}
 use Rattle.literals.specs.declared.numbers.Numeral.{Numeral}
 use Rattle.literals.specs.declared.numbers.Numeral.TheVariants.{Int, Float}

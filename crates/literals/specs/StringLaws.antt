@@ -17,7 +17,6 @@ use Rattle.characters.specs.declared.tokens.Must.TheVariants.{Taken, Failed}
 use Rattle.characters.specs.Text.{Text, byte_at, ByteOf, on_by, past, past_end, tails, next, is_tail, Stands}
 use Rattle.characters.specs.PlaceLaws.{Reached, Advanced, reached_here, reached_on, advanced_reached, in_text, at_end, from_byte, from_end, past_offset, past_stands, on_by_stands, next_end, next_in}
 use Rattle.characters.specs.BlankLaws.{rest}
-use Rattle.characters.specs.Names.{same}
 use Rattle.literals.specs.declared.strings.Escaped.{Escaped}
 use Rattle.literals.specs.declared.strings.Escaped.TheVariants.{Means, Short, NotHex, Unknown}
 use Rattle.literals.specs.Numbers.{digit_of}

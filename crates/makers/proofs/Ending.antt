@@ -19,7 +19,7 @@ use Rattle.reading.specs.declared.answer.Got.{Got}
 use Rattle.reading.specs.declared.answer.Got.TheVariants.{Read, Refused}
 use Rattle.reading.specs.Events.{with_id}
 use Rattle.reading.specs.Process.{make, plain}
-use Rattle.reading.specs.Laws.Does.{by_stop, yes_way, no_way, does_more}
+use Rattle.reading.proofs.Laws.Does.{by_stop, yes_way, no_way, does_more}
 use Rattle.records.specs.declared.kind.Kind.{Kind}
 use Rattle.records.specs.declared.kind.Kind.TheVariants as kinds
 use Rattle.records.specs.declared.row.Row.{Row}
@@ -27,7 +27,7 @@ use Rattle.records.specs.Kinds.{number_of}
 use Rattle.records.specs.Rows.{record_of}
 use Rattle.records.specs.Words.{whole_of}
 use Rattle.records.specs.Nodes.{word_at, kind_at, place_at, is_leaf, role_by, closure_at, value_at, value_of, node_at, MakesRow, row_like}
-use Rattle.records.specs.Laws.Nodes.{row_as, value_leaf, closure_earlier, does_node, read_of}
+use Rattle.records.proofs.Laws.Nodes.{row_as, value_leaf, closure_earlier, does_node, read_of}
 use Rattle.grammar.specs.Leaves.{row_of, leaf_row}
 use Rattle.grammar.specs.Functions.{fun_row, fun_p}
 use Rattle.grammar.specs.Statements.{jump_p, target_p, is_target, combine_p, increment_p}

@@ -15,11 +15,11 @@ use Rattle.reading.specs.declared.answer.Out.{Out}
 use Rattle.reading.specs.declared.answer.Out.TheVariants as out
 use Rattle.reading.specs.Process.{Grammar}
 use Rattle.reading.specs.Says.{Does}
-use Rattle.reading.specs.Laws.Does.{by_make, then, stops, yes_way, no_way, does_within}
+use Rattle.reading.proofs.Laws.Does.{by_make, then, stops, yes_way, no_way, does_within}
 use Rattle.records.specs.declared.kind.Kind.TheVariants as kinds
 use Rattle.records.specs.Rows.{layout}
 use Rattle.records.specs.Nodes.{Keeps, MakesRow, row_like}
-use Rattle.records.specs.Laws.Nodes.{row_read, keeps_layout, read_of, refused_of}
+use Rattle.records.proofs.Laws.Nodes.{row_read, keeps_layout, read_of, refused_of}
 use Rattle.grammar.specs.Operators.{strength_of}
 use Rattle.grammar.specs.Expressions.{Routine, Rule, Waiting, Pending, reduce_p}
 use Rattle.grammar.specs.Grammar.{grammar}

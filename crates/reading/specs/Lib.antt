@@ -1,4 +1,3 @@
-pub mod Promises
 pub mod Events
 pub mod Limits
 pub mod Process
@@ -7,7 +6,4 @@ pub mod Demands
 pub mod Suits
 pub mod Entry
 pub mod Says
-pub mod Laws
 pub mod Trial
-pub mod TrialSuits
-pub mod TrialExamples

@@ -22,14 +22,14 @@ use Rattle.reading.specs.Demands.{Below, by_limit, Opens, Grows, Crosses, Counte
 use Rattle.reading.specs.Suits.{AllFine, Proper}
 use Rattle.reading.specs.Entry.{Opening, permitted, nowhere, gated, opened, entry}
 use Rattle.reading.specs.Says.{laid, Says}
-use Rattle.reading.specs.Promises as reads
-use Rattle.reading.specs.Laws.Entry.{permitted_by, entry_long}
-use Rattle.reading.specs.Laws.Unlimited.{reading_ends}
-use Rattle.reading.specs.Laws.Says.{says_answer}
+use Rattle.reading.proofs.Promises as reads
+use Rattle.reading.proofs.Laws.Entry.{permitted_by, entry_long}
+use Rattle.reading.proofs.Laws.Unlimited.{reading_ends}
+use Rattle.reading.proofs.Laws.Says.{says_answer}
 use Rattle.records.specs.Rows.{width, layout, cap_of, rows_of}
 use Rattle.records.specs.Meanings.{AllMeant}
-use Rattle.records.specs.Laws.Rows.{laid_length, laid_past}
-use Rattle.records.specs.Laws.Pools.{laid_whole, laid_alike}
+use Rattle.records.proofs.Laws.Rows.{laid_length, laid_past}
+use Rattle.records.proofs.Laws.Pools.{laid_whole, laid_alike}
 use Rattle.grammar.specs.Grammar.{grammar}
 use Rattle.grammar.specs.Units.{unit_p, start_of, opening, full}
 use Rattle.unit.specs.Suits.Falling.{chosen}

@@ -15,7 +15,7 @@ use Rattle.reading.specs.Answers.{refusal_of, answer_of}
 use Rattle.reading.specs.Demands.{Grows, Crosses, AllEarlier}
 use Rattle.reading.specs.Suits.{Proper}
 use Rattle.reading.specs.Entry.{nowhere, opened}
-use Rattle.reading.specs.Promises.{before_reading}
+use Rattle.reading.proofs.Promises.{before_reading}
 use Rattle.reading.specs.Says.{laid}
 use Rattle.records.specs.Rows.{width, layout, cap_of, rows_of}
 use Rattle.records.specs.Meanings.{AllMeant}

@@ -9,7 +9,7 @@ use Rattle.records.specs.declared.kind.Kind.{Kind}
 use Rattle.records.specs.declared.kind.KindAt.{KindAt}
 use Rattle.records.specs.declared.kind.KindAt.TheVariants.{Known, Unknown}
 use Rattle.records.specs.Kinds.{number_of, kinds, kind_of}
-use Rattle.records.specs.Laws.Kinds.{kind_number}
+use Rattle.records.proofs.Laws.Kinds.{kind_number}
 use Rattle.listing.specs.declared.fields.Form.{Form}
 use Rattle.listing.specs.declared.fields.Form.TheVariants.{Hidden, Plain, Named, Quoted, Array, Float, Int, Prefix, Sign}
 use Rattle.listing.specs.Listing.{form_at, is_item, name_of, place, positioned}

@@ -21,7 +21,7 @@ use Rattle.records.specs.declared.row.RowAt.{RowAt}
 use Rattle.records.specs.declared.row.RowAt.TheVariants.{Here, Nothing}
 use Rattle.records.specs.Kinds.{number_of, kinds, kind_of}
 use Rattle.records.specs.Rows.{width, row_by, row_if, row_at}
-use Rattle.records.specs.Laws.Kinds.{kind_number}
+use Rattle.records.proofs.Laws.Kinds.{kind_number}
 use Rattle.listing.specs.declared.fields.Form.{Form}
 use Rattle.listing.specs.declared.fields.Form.TheVariants.{Hidden, Plain, Named, Quoted, Array, Float, Int, Prefix, Sign}
 use Rattle.listing.specs.Listing.{decimal, signed, place, spanned, name, utf8, characters, spelled, quoted, pairs, bytes, minus, prefixes, signs, field, form_at, name_of, is_item, positioned, fields, line_of, line_by, line_at, counts, last_line}

@@ -19,11 +19,11 @@ use Rattle.reading.specs.declared.answer.Got.{Got}
 use Rattle.reading.specs.declared.answer.Got.TheVariants.{Read, Refused}
 use Rattle.reading.specs.Process.{Process, done, stop, make, test, must, bind}
 use Rattle.reading.specs.Says.{Does}
-use Rattle.reading.specs.Laws.Does.{by_done, by_stop, yes_way, no_way, taken, failed}
+use Rattle.reading.proofs.Laws.Does.{by_done, by_stop, yes_way, no_way, taken, failed}
 use Rattle.records.specs.declared.row.Row.{Row}
 use Rattle.records.specs.Rows.{layout, record_of}
 use Rattle.records.specs.Nodes.{Stored, value_of, node_at, MakesRow}
-use Rattle.records.specs.Laws.Nodes.{stored_made, row_as}
+use Rattle.records.proofs.Laws.Nodes.{stored_made, row_as}
 use Rattle.grammar.specs.Expressions.{Routine}
 use Rattle.grammar.specs.Grammar.{grammar}
 use Rattle.grammar.specs.Reads.{Ready, Reads}

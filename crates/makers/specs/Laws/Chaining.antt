@@ -14,9 +14,9 @@ use Rattle.reading.specs.declared.answer.Got.TheVariants.{Read, Refused}
 use Rattle.reading.specs.declared.answer.Out.{Out}
 use Rattle.reading.specs.Process.{bind}
 use Rattle.reading.specs.Says.{Does}
-use Rattle.reading.specs.Laws.Does.{by_stop, then, stops, yes_way, no_way, does_more}
+use Rattle.reading.proofs.Laws.Does.{by_stop, then, stops, yes_way, no_way, does_more}
 use Rattle.records.specs.Rows.{layout}
-use Rattle.records.specs.Laws.Nodes.{does_keeps, does_length, read_of, refused_of}
+use Rattle.records.proofs.Laws.Nodes.{does_keeps, does_length, read_of, refused_of}
 use Rattle.grammar.specs.declared.leaves.Link.{Link}
 use Rattle.grammar.specs.declared.leaves.Link.TheVariants.{Choice, Operator, Assign, End}
 use Rattle.grammar.specs.Operators.{strength_of, loosest}

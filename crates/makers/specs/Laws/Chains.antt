@@ -11,11 +11,11 @@ use Rattle.reading.specs.declared.answer.Got.TheVariants.{Read, Refused}
 use Rattle.reading.specs.declared.answer.Out.TheVariants as out
 use Rattle.reading.specs.Process.{Grammar, done}
 use Rattle.reading.specs.Says.{Does}
-use Rattle.reading.specs.Laws.Does.{by_done, told}
+use Rattle.reading.proofs.Laws.Does.{by_done, told}
 use Rattle.records.specs.Rows.{layout}
 use Rattle.records.specs.Nodes.{out_of, Keeps}
-use Rattle.records.specs.Laws.Rows.{lent_kept}
-use Rattle.records.specs.Laws.Nodes.{place_kept, does_length}
+use Rattle.records.proofs.Laws.Rows.{lent_kept}
+use Rattle.records.proofs.Laws.Nodes.{place_kept, does_length}
 use Rattle.grammar.specs.Operators.{Operator, operators, operator_of, strength_of}
 use Rattle.grammar.specs.LinkLaws.{strengths}
 use Rattle.grammar.specs.Expressions.{Routine, Pending, waits, reduce_p}

@@ -24,18 +24,18 @@ use Rattle.reading.specs.Limits.{Limits, limited, Verdict, goes, over, judge, ju
 use Rattle.reading.specs.Process.{Process, Grammar, done, stop, spent, make, compare, fresh, call, test, look, must, bind, node_of, joined, after, under, run}
 use Rattle.reading.specs.Answers.{Tells}
 use Rattle.reading.specs.Says.{laid, Does}
-use Rattle.reading.specs.Laws.Counts.{steps_append, tally_records}
-use Rattle.reading.specs.Laws.Grows.{records_append}
-use Rattle.reading.specs.Laws.Says.{refused_read, laid_append}
-use Rattle.reading.specs.Laws.Does.{does_within}
+use Rattle.reading.proofs.Laws.Counts.{steps_append, tally_records}
+use Rattle.reading.proofs.Laws.Grows.{records_append}
+use Rattle.reading.proofs.Laws.Says.{refused_read, laid_append}
+use Rattle.reading.proofs.Laws.Does.{does_within}
 use Rattle.records.specs.declared.kind.Kind.{Kind}
 use Rattle.records.specs.declared.kind.Kind.TheVariants as kinds
 use Rattle.records.specs.declared.row.Row.{Row}
 use Rattle.records.specs.Kinds.{number_of}
 use Rattle.records.specs.Rows.{Lent, layout, record_of}
 use Rattle.records.specs.Nodes.{word_at, kind_at, held_at, held_in, value_by, closure_at, value_at}
-use Rattle.records.specs.Laws.Rows.{laid_length}
-use Rattle.records.specs.Laws.Nodes.{held_laid, node_laid}
+use Rattle.records.proofs.Laws.Rows.{laid_length}
+use Rattle.records.proofs.Laws.Nodes.{held_laid, node_laid}
 use Rattle.grammar.specs.declared.heads.ClassHead.{ClassHead}
 use Rattle.grammar.specs.declared.heads.ClassHead.TheVariants as classes
 use Rattle.grammar.specs.declared.heads.StatementHead.{StatementHead}

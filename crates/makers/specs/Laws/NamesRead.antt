@@ -21,13 +21,13 @@ use Rattle.reading.specs.declared.answer.Got.{Got}
 use Rattle.reading.specs.declared.answer.Got.TheVariants.{Read, Refused}
 use Rattle.reading.specs.declared.answer.Out.{Out}
 use Rattle.reading.specs.Says.{Does}
-use Rattle.reading.specs.Laws.Does.{by_done, by_stop, then, stops, told, yes_way, no_way, found, missing, halted, taken, failed}
+use Rattle.reading.proofs.Laws.Does.{by_done, by_stop, then, stops, told, yes_way, no_way, found, missing, halted, taken, failed}
 use Rattle.records.specs.declared.row.Row.{Row}
 use Rattle.records.specs.Rows.{layout}
 use Rattle.records.specs.Words.{span_word, span_of}
 use Rattle.records.specs.Nodes.{node_at, out_of, MakesRow}
-use Rattle.records.specs.Laws.Words.{span_back}
-use Rattle.records.specs.Laws.Nodes.{row_as, read_of, refused_of}
+use Rattle.records.proofs.Laws.Words.{span_back}
+use Rattle.records.proofs.Laws.Nodes.{row_as, read_of, refused_of}
 use Rattle.grammar.specs.Leaves.{key_at, close_of, follow_of}
 use Rattle.grammar.specs.LeafLaws.{KeyOn, key_on, CloseOn, close_on}
 use Rattle.grammar.specs.Leads.{FollowOn, follow_leads}

@@ -20,14 +20,14 @@ use Rattle.reading.specs.declared.answer.Got.{Got}
 use Rattle.reading.specs.declared.answer.Got.TheVariants.{Read, Refused}
 use Rattle.reading.specs.Process.{Process, Grammar, make, call}
 use Rattle.reading.specs.Says.{Does}
-use Rattle.reading.specs.Laws.Does.{by_stop, by_make, then, stops, told, yes_way, no_way, taken, failed}
+use Rattle.reading.proofs.Laws.Does.{by_stop, by_make, then, stops, told, yes_way, no_way, taken, failed}
 use Rattle.records.specs.declared.kind.Kind.TheVariants as kinds
 use Rattle.records.specs.declared.row.Row.{Row}
 use Rattle.records.specs.Kinds.{number_of}
 use Rattle.records.specs.Rows.{Lent, layout, record_of}
 use Rattle.records.specs.Words.{span_of, high_of}
 use Rattle.records.specs.Nodes.{kind_at, held_at, value_at, value_of, node_at, out_of, MakesRow}
-use Rattle.records.specs.Laws.Nodes.{keeps_layout, held_kept, held_laid, node_laid, row_as, row_read, read_of, refused_of}
+use Rattle.records.proofs.Laws.Nodes.{keeps_layout, held_kept, held_laid, node_laid, row_as, row_read, read_of, refused_of}
 use Rattle.grammar.specs.Leaves.{row_of}
 use Rattle.grammar.specs.Expressions.{statement, function, class, method_row}
 use Rattle.grammar.specs.Functions.{name_span, name_word, with_name}

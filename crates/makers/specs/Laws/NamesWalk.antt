@@ -22,8 +22,8 @@ use Rattle.reading.specs.declared.answer.Got.TheVariants.{Read, Refused}
 use Rattle.reading.specs.Events.{with_comparison}
 use Rattle.records.specs.Words.{span_of, low_of, high_of, whole_of}
 use Rattle.records.specs.Nodes.{Stored, word_at, kind_at, held_at, before_at, closure_at, value_by, role_by, value_at, node_at}
-use Rattle.records.specs.Laws.Words.{low_back, high_back}
-use Rattle.records.specs.Laws.Nodes.{closure_earlier}
+use Rattle.records.proofs.Laws.Words.{low_back, high_back}
+use Rattle.records.proofs.Laws.Nodes.{closure_earlier}
 use Rattle.grammar.specs.Units.{is_function, declared_name}
 use Rattle.makers.specs.declared.names.Naming.{Naming}
 use Rattle.makers.specs.declared.names.Held.{Held}

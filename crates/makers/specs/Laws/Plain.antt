@@ -13,10 +13,10 @@ use Rattle.reading.specs.declared.answer.Got.TheVariants.{Read}
 use Rattle.reading.specs.Events.{with_record}
 use Rattle.reading.specs.Process.{Process, call, bind}
 use Rattle.reading.specs.Says.{Does}
-use Rattle.reading.specs.Laws.Does.{by_done, then, yes_way, along, enter}
+use Rattle.reading.proofs.Laws.Does.{by_done, then, yes_way, along, enter}
 use Rattle.records.specs.Kinds.{number_of}
 use Rattle.records.specs.Rows.{Lent, Lays, layout}
-use Rattle.records.specs.Laws.Nodes.{row_made}
+use Rattle.records.proofs.Laws.Nodes.{row_made}
 use Rattle.grammar.specs.declared.leaves.Prefix.{Prefix}
 use Rattle.grammar.specs.declared.leaves.Prefix.TheVariants.{Other}
 use Rattle.grammar.specs.declared.leaves.Postfix.{Postfix}

@@ -11,7 +11,7 @@ use Rattle.reading.specs.Events.{Event, End, Done, Stop, Crossed, Spent, Outcome
 use Rattle.reading.specs.Limits.{Limits, limited}
 use Rattle.reading.specs.Process.{Process, Grammar, bind, joined, after, under, run}
 use Rattle.reading.specs.Says.{Layout, Says, Does}
-use Rattle.reading.specs.Laws.Counts.{steps_append}
+use Rattle.reading.proofs.Laws.Counts.{steps_append}
 
 -- after some events an outcome goes on as it does without them
 more_events : (t : Tally) (es : List Event) (e : End) (fs : List Event) (g : Place → Node → Tally → Outcome)

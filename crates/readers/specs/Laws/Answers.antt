@@ -16,10 +16,10 @@ use Rattle.reading.specs.declared.answer.Got.{Got}
 use Rattle.reading.specs.declared.answer.Got.TheVariants.{Refused}
 use Rattle.reading.specs.Process.{Process, look, must, bind}
 use Rattle.reading.specs.Says.{Does}
-use Rattle.reading.specs.Laws.Does.{then, stops, told, found, missing, halted, failed, does_within}
+use Rattle.reading.proofs.Laws.Does.{then, stops, told, found, missing, halted, failed, does_within}
 use Rattle.records.specs.Rows.{layout}
-use Rattle.records.specs.Laws.Rows.{lent_kept}
-use Rattle.records.specs.Laws.Nodes.{does_length}
+use Rattle.records.proofs.Laws.Rows.{lent_kept}
+use Rattle.records.proofs.Laws.Nodes.{does_length}
 use Rattle.grammar.specs.Expressions.{Routine, Rule, list_node}
 use Rattle.grammar.specs.Grammar.{grammar}
 use Rattle.grammar.specs.Reads.{Ready, Reads}

@@ -17,11 +17,11 @@ use Rattle.reading.specs.declared.tally.Tally.{Tally}
 use Rattle.reading.specs.declared.answer.Got.{Got}
 use Rattle.reading.specs.declared.answer.Got.TheVariants.{Read, Refused}
 use Rattle.reading.specs.Process.{call, must, bind}
-use Rattle.reading.specs.Laws.Does.{by_stop, then, along, yes_way, no_way, taken, does_more}
+use Rattle.reading.proofs.Laws.Does.{by_stop, then, along, yes_way, no_way, taken, does_more}
 use Rattle.records.specs.declared.kind.Kind.TheVariants as kinds
 use Rattle.records.specs.declared.row.Row.{Row}
 use Rattle.records.specs.Nodes.{kind_at, place_at, node_at, MakesRow}
-use Rattle.records.specs.Laws.Nodes.{row_as, read_of, does_node}
+use Rattle.records.proofs.Laws.Nodes.{row_as, read_of, does_node}
 use Rattle.grammar.specs.declared.heads.StepHead.{StepHead}
 use Rattle.grammar.specs.declared.heads.StepHead.TheVariants.{Step, Other, Wrong}
 use Rattle.grammar.specs.declared.heads.Assignment.{Assignment}

@@ -18,12 +18,12 @@ use Rattle.reading.specs.declared.answer.Got.TheVariants.{Read, Refused}
 use Rattle.reading.specs.declared.answer.Out.{Out}
 use Rattle.reading.specs.Process.{Process, make, call, bind, plain}
 use Rattle.reading.specs.Says.{Does}
-use Rattle.reading.specs.Laws.Does.{then, stops, found, missing, halted, taken, enter}
+use Rattle.reading.proofs.Laws.Does.{then, stops, found, missing, halted, taken, enter}
 use Rattle.records.specs.declared.row.Row.{Row}
 use Rattle.records.specs.declared.kind.Kind.TheVariants as kinds
 use Rattle.records.specs.Rows.{layout, record_of}
 use Rattle.records.specs.Nodes.{MakesRow}
-use Rattle.records.specs.Laws.Nodes.{row_as, does_length, read_of, refused_of}
+use Rattle.records.proofs.Laws.Nodes.{row_as, does_length, read_of, refused_of}
 use Rattle.grammar.specs.Leaves.{row_of}
 use Rattle.grammar.specs.Heads.{end_of}
 use Rattle.grammar.specs.HeadLaws.{EndOn, end_on}

@@ -16,11 +16,11 @@ use Rattle.reading.specs.declared.answer.Got.TheVariants.{Read, Refused}
 use Rattle.reading.specs.declared.answer.Out.{Out}
 use Rattle.reading.specs.Process.{make, call}
 use Rattle.reading.specs.Says.{Does}
-use Rattle.reading.specs.Laws.Does.{by_done, then, stops, found, missing, halted, too_deep}
+use Rattle.reading.proofs.Laws.Does.{by_done, then, stops, found, missing, halted, too_deep}
 use Rattle.records.specs.declared.row.Row.{Row}
 use Rattle.records.specs.Rows.{layout, record_of}
 use Rattle.records.specs.Nodes.{MakesRow}
-use Rattle.records.specs.Laws.Nodes.{row_as, does_length, read_of, refused_of}
+use Rattle.records.proofs.Laws.Nodes.{row_as, does_length, read_of, refused_of}
 use Rattle.grammar.specs.Leaves.{close_of, follow_of}
 use Rattle.grammar.specs.LeafLaws.{CloseOn, close_on}
 use Rattle.grammar.specs.Leads.{FollowOn, follow_leads}

@@ -15,9 +15,9 @@ use Rattle.reading.specs.declared.answer.Out.TheVariants as out
 use Rattle.reading.specs.declared.answer.Got.{Got}
 use Rattle.reading.specs.declared.answer.Got.TheVariants.{Read, Refused}
 use Rattle.reading.specs.Process.{plain, done, call, look, must, bind}
-use Rattle.reading.specs.Laws.Does.{by_done, told, found, missing, halted, taken, failed}
+use Rattle.reading.proofs.Laws.Does.{by_done, told, found, missing, halted, taken, failed}
 use Rattle.records.specs.Nodes.{node_at}
-use Rattle.records.specs.Laws.Nodes.{read_of, refused_of}
+use Rattle.records.proofs.Laws.Nodes.{read_of, refused_of}
 use Rattle.grammar.specs.Expressions.{Rule, expression, statement}
 use Rattle.grammar.specs.Statements.{absent, expr_or_assign_p, for_end_p, for_p, for_rest_p, first_part_p, test_part_p, third_part_p, control_body_p}
 use Rattle.grammar.specs.Reads.{Ready, Reads}

@@ -20,13 +20,13 @@ use Rattle.reading.specs.declared.answer.Out.{Out}
 use Rattle.reading.specs.declared.answer.Out.TheVariants as out
 use Rattle.reading.specs.Process.{make, call, bind}
 use Rattle.reading.specs.Says.{Does}
-use Rattle.reading.specs.Laws.Does.{by_done, by_stop, then, stops, along, yes_way, no_way, taken, too_deep, enter, does_more}
+use Rattle.reading.proofs.Laws.Does.{by_done, by_stop, then, stops, along, yes_way, no_way, taken, too_deep, enter, does_more}
 use Rattle.records.specs.declared.kind.Kind.{Kind}
 use Rattle.records.specs.declared.kind.Kind.TheVariants as kinds
 use Rattle.records.specs.declared.row.Row.{Row}
 use Rattle.records.specs.Rows.{Lent, layout, record_of}
 use Rattle.records.specs.Nodes.{row_like, MakesRow}
-use Rattle.records.specs.Laws.Nodes.{place_kept, row_as, row_at, does_keeps, does_length, read_of, refused_of}
+use Rattle.records.proofs.Laws.Nodes.{place_kept, row_as, row_at, does_keeps, does_length, read_of, refused_of}
 use Rattle.grammar.specs.declared.leaves.Atom.{Atom}
 use Rattle.grammar.specs.declared.leaves.Atom.TheVariants as atom
 use Rattle.grammar.specs.declared.leaves.Postfix.{Postfix}

@@ -17,11 +17,11 @@ use Rattle.reading.specs.declared.tally.Tally.{Tally}
 use Rattle.reading.specs.declared.answer.Got.{Got}
 use Rattle.reading.specs.declared.answer.Got.TheVariants.{Read, Refused}
 use Rattle.reading.specs.Process.{call, plain}
-use Rattle.reading.specs.Laws.Does.{by_done, by_stop, along, yes_way, no_way, found, missing, halted, taken, failed, enter}
+use Rattle.reading.proofs.Laws.Does.{by_done, by_stop, along, yes_way, no_way, found, missing, halted, taken, failed, enter}
 use Rattle.records.specs.declared.kind.Kind.TheVariants as kinds
 use Rattle.records.specs.declared.row.Row.{Row}
 use Rattle.records.specs.Nodes.{kind_at, place_at, MakesRow}
-use Rattle.records.specs.Laws.Nodes.{row_as}
+use Rattle.records.proofs.Laws.Nodes.{row_as}
 use Rattle.grammar.specs.declared.heads.StatementHead.{StatementHead}
 use Rattle.grammar.specs.declared.heads.StatementHead.TheVariants as head
 use Rattle.grammar.specs.declared.heads.LetHead.{LetHead}

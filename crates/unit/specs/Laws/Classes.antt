@@ -24,11 +24,11 @@ use Rattle.reading.specs.declared.answer.Out.{Out}
 use Rattle.reading.specs.Events.{with_id}
 use Rattle.reading.specs.Process.{call, plain}
 use Rattle.reading.specs.Says.{Does}
-use Rattle.reading.specs.Laws.Does.{by_done, by_stop, then, stops, along, found, missing, halted, taken, failed, too_deep, enter}
+use Rattle.reading.proofs.Laws.Does.{by_done, by_stop, then, stops, along, found, missing, halted, taken, failed, too_deep, enter}
 use Rattle.records.specs.declared.row.Row.{Row}
 use Rattle.records.specs.Rows.{Lent, layout}
 use Rattle.records.specs.Nodes.{Stored, held_at, value_at, node_at, MakesRow}
-use Rattle.records.specs.Laws.Nodes.{row_as, read_of, refused_of}
+use Rattle.records.proofs.Laws.Nodes.{row_as, read_of, refused_of}
 use Rattle.grammar.specs.declared.heads.ClassHead.{ClassHead}
 use Rattle.grammar.specs.declared.heads.ClassHead.TheVariants.{Opened, Wrong}
 use Rattle.grammar.specs.Leaves.{close_of}

@@ -19,10 +19,10 @@ use Rattle.reading.specs.Events.{start}
 use Rattle.reading.specs.Answers.{answer_from}
 use Rattle.reading.specs.Entry.{nowhere}
 use Rattle.reading.specs.Says.{Calls}
-use Rattle.reading.specs.Laws.Does.{call_long, call_zero, call_over, call_unsound, call_read}
+use Rattle.reading.proofs.Laws.Does.{call_long, call_zero, call_over, call_unsound, call_read}
 use Rattle.records.specs.Rows.{layout, cap_of}
 use Rattle.records.specs.Nodes.{out_of}
-use Rattle.records.specs.Laws.Rows.{lent_by}
+use Rattle.records.proofs.Laws.Rows.{lent_by}
 use Rattle.grammar.specs.Units.{unit_p, start_of, opening, full}
 use Rattle.grammar.specs.Grammar.{grammar}
 use Rattle.grammar.specs.Reads.{Ready, Reads}

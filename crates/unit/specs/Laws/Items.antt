@@ -21,16 +21,16 @@ use Rattle.reading.specs.declared.answer.Out.{Out}
 use Rattle.reading.specs.Entry.{nowhere}
 use Rattle.reading.specs.Process.{make, call, plain, under}
 use Rattle.reading.specs.Says.{Does}
-use Rattle.reading.specs.Laws.Does.{by_make, by_stop, then, stops, along, yes_way, no_way, found, missing, halted, does_more}
+use Rattle.reading.proofs.Laws.Does.{by_make, by_stop, then, stops, along, yes_way, no_way, found, missing, halted, does_more}
 use Rattle.records.specs.declared.kind.Kind.TheVariants as kinds
 use Rattle.records.specs.declared.row.Row.{Row}
 use Rattle.records.specs.Kinds.{number_of}
 use Rattle.records.specs.Rows.{Lent, layout, record_of}
 use Rattle.records.specs.Words.{span_of, low_of, high_of, whole_of}
 use Rattle.records.specs.Nodes.{word_at, kind_at, place_at, held_at, value_by, role_by, closure_at, value_at, value_of, node_at, out_of, MakesRow}
-use Rattle.records.specs.Laws.Words.{low_back, high_back}
-use Rattle.records.specs.Laws.Rows.{lent_kept}
-use Rattle.records.specs.Laws.Nodes.{row_as, row_read, does_length, read_of, refused_of}
+use Rattle.records.proofs.Laws.Words.{low_back, high_back}
+use Rattle.records.proofs.Laws.Rows.{lent_kept}
+use Rattle.records.proofs.Laws.Nodes.{row_as, row_read, does_length, read_of, refused_of}
 use Rattle.grammar.specs.declared.heads.ItemHead.{ItemHead}
 use Rattle.grammar.specs.declared.heads.ItemHead.TheVariants.{End, Class, Statement, Wrong}
 use Rattle.grammar.specs.Leaves.{row_of}

@@ -10,18 +10,18 @@ use Rattle.characters.specs.Text.{Text, Stands}
 use Rattle.characters.specs.PlaceLaws.{Reached, Advanced, advanced_on, advanced_reached}
 use Rattle.reading.specs.declared.node.Node.{Node}
 use Rattle.reading.specs.Events.{Rec}
-use Rattle.reading.specs.Laws.Suits.{since_same, since_with, since_trans}
-use Rattle.reading.specs.Laws.Rules.{Fits, fits_done, fits_stop, fits_make, fits_fresh, fits_call, fits_test, fits_bind}
+use Rattle.reading.proofs.Laws.Suits.{since_same, since_with, since_trans}
+use Rattle.reading.proofs.Laws.Rules.{Fits, fits_done, fits_stop, fits_make, fits_fresh, fits_call, fits_test, fits_bind}
 use Rattle.records.specs.Kinds as table
 use Rattle.records.specs.Meanings.{Is, MayBe, none, some}
-use Rattle.records.specs.Laws.Meanings.{is_new, maybe_since}
+use Rattle.records.proofs.Laws.Meanings.{is_new, maybe_since}
 use Rattle.grammar.specs.declared.heads.ClassHead.{ClassHead}
 use Rattle.grammar.specs.declared.heads.ClassHead.TheVariants.{Opened, Wrong}
 use Rattle.grammar.specs.Heads.{class_of}
 use Rattle.grammar.specs.HeadLaws.{ClassOn, class_on}
 use Rattle.unit.specs.HeadRefusing.{ClassProper, class_proper}
 use Rattle.grammar.specs.Expressions.{function, turns}
-use Rattle.grammar.specs.Functions.{name_word}
+use Rattle.grammar.specs.Functions.{name_span, name_word}
 use Rattle.grammar.specs.Classes.{is_init, method_end_p, method_p, methods_p, class_end_p, class_as, class_p}
 use Rattle.unit.specs.Suits.Falling.{chosen, Works, MayWork, Room, called, still, beyond, advanced_then, turned, enough, fits_close}
 use Rattle.unit.specs.Suits.Functions.{fits_name, fits_name_of, fits_new_name}
@@ -39,7 +39,7 @@ module _ (s : Text) (M : ℕ) where
   unfolding method_p
   method_works before names last p st l i Q h =
       fits_name s p st (λ a q g.
-      fits_new_name s q q _ names _ (fits_bind (fits_call g.stands (called (function a (name_word a q)) (still (advanced_reached g) i)) (λ now r f since b.
+      fits_new_name s q q (name_span a q) names _ (fits_bind (fits_call {nt = function a (name_word a q)} g.stands (called (function a (name_word a q)) (still (advanced_reached g) i)) (λ now r f since b.
       method_end_works now (is_init s a q) f last r b.1 (maybe_since since l) Q
       (λ now' r' e since' z number. h now' r' e (since_trans since since') (subst (Advanced s p) (sym z) (advanced_then g (advanced_reached b.0))) number)))))
 
@@ -68,7 +68,7 @@ module _ (s : Text) (M : ℕ) where
       → Works s M before (Advanced s p) table.class (class_p s from names p)
   unfolding class_p
   class_works before from names p st i Q h =
-      fits_name_of s p st (λ a q g. fits_new_name s q from _ names _ (go a q g (class_of s q) (class_on s q g.stands) (class_proper s q)))
+      fits_name_of s p st (λ a q g. fits_new_name s q from (name_span a q) names _ (go a q g (class_of s q) (class_on s q g.stands) (class_proper s q)))
     where
       go : (a q : Place) → Advanced s p q → (x : ClassHead) → ClassOn s q x → ClassProper x → Fits (chosen s) M before Q (class_as s from (name_word a q) x)
       go a q g (Opened parent n) y k =

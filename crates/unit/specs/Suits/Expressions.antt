@@ -13,11 +13,11 @@ use Rattle.reading.specs.declared.node.Node.{Node}
 use Rattle.reading.specs.Events.{Rec}
 use Rattle.reading.specs.Process.{must}
 use Rattle.reading.specs.Suits.{Since, Claim}
-use Rattle.reading.specs.Laws.Suits.{since_same, since_with, since_trans}
-use Rattle.reading.specs.Laws.Rules.{Fits, fits_done, fits_stop, fits_make, fits_compare, fits_call, fits_test, fits_must, fits_bind}
+use Rattle.reading.proofs.Laws.Suits.{since_same, since_with, since_trans}
+use Rattle.reading.proofs.Laws.Rules.{Fits, fits_done, fits_stop, fits_make, fits_compare, fits_call, fits_test, fits_must, fits_bind}
 use Rattle.records.specs.Kinds as table
 use Rattle.records.specs.Meanings.{Is, MayBe, none, some}
-use Rattle.records.specs.Laws.Meanings.{is_since, is_new, maybe_since}
+use Rattle.records.proofs.Laws.Meanings.{is_since, is_new, maybe_since}
 use Rattle.grammar.specs.declared.leaves.Prefix.{Prefix}
 use Rattle.grammar.specs.declared.leaves.Prefix.TheVariants as prefix
 use Rattle.grammar.specs.declared.leaves.Atom.{Atom}

@@ -11,7 +11,7 @@ use Rattle.reading.specs.declared.node.Node.{Node}
 use Rattle.reading.specs.Events.{Rec}
 use Rattle.reading.specs.Process.{look, must}
 use Rattle.reading.specs.Suits.{Since, Claim, Choice}
-use Rattle.reading.specs.Laws.Rules.{Fits, fits_look, fits_must}
+use Rattle.reading.proofs.Laws.Rules.{Fits, fits_look, fits_must}
 use Rattle.records.specs.Kinds.{Meaning}
 use Rattle.records.specs.Kinds as table
 use Rattle.records.specs.Meanings.{Is, MayBe, Meant}

@@ -20,17 +20,18 @@ use Rattle.reading.specs.declared.node.Node.{Node}
 use Rattle.reading.specs.Events.{Rec}
 use Rattle.reading.specs.Process.{look, must}
 use Rattle.reading.specs.Suits.{Claim}
-use Rattle.reading.specs.Laws.Suits.{since_same, since_with, since_trans}
-use Rattle.reading.specs.Laws.Rules.{Fits, fits_done, fits_stop, fits_make, fits_compare, fits_fresh, fits_call, fits_test, fits_look, fits_must, fits_bind}
+use Rattle.reading.proofs.Laws.Suits.{since_same, since_with, since_trans}
+use Rattle.reading.proofs.Laws.Rules.{Fits, fits_done, fits_stop, fits_make, fits_compare, fits_fresh, fits_call, fits_test, fits_look, fits_must, fits_bind}
 use Rattle.records.specs.Kinds as table
+use Rattle.records.specs.Rows.{record_of}
 use Rattle.records.specs.Meanings.{Is, MayBe, none, some}
-use Rattle.records.specs.Laws.Meanings.{is_new, maybe_since}
+use Rattle.records.proofs.Laws.Meanings.{is_new, maybe_since}
 use Rattle.grammar.specs.Heads.{name_of, end_of}
 use Rattle.grammar.specs.HeadLaws.{NameOn, name_of_on, EndOn, end_on}
 use Rattle.unit.specs.Refusing.{MustProper, LookProper, name_proper}
 use Rattle.unit.specs.HeadRefusing.{free_proper, name_of_proper, keyword_proper, end_proper}
 use Rattle.grammar.specs.Expressions.{Rule, expression, statement, turns}
-use Rattle.grammar.specs.Functions.{new_name, param_p, params_p, parameters_p, block_item_p, statements_p, block_p, fun_p, body_block_p, function_p, implied_return_p, lambda_body_p, lambda_p}
+use Rattle.grammar.specs.Functions.{name_span, name_word, new_name, param_row, param_p, params_p, parameters_p, block_item_p, statements_p, block_p, fun_p, body_block_p, function_p, implied_return_p, lambda_body_p, lambda_p}
 use Rattle.unit.specs.Suits.Falling.{chosen, Works, MayWork, Room, called, still, beyond, advanced_then, turned, enough, fits_close, fits_follow, fits_token, fits_expected}
 
 -- ---- by what the leaves find
@@ -97,7 +98,7 @@ module _ (s : Text) (M : ℕ) where
       → Works s M before (Advanced s p) table.items (param_p s names last p)
   unfolding param_p
   param_works before names last p st l Q h =
-      fits_free s p st (λ k q g. fits_new_name s q q _ names _ (fits_make (l, tt) (λ now w. h now q _ (since_with w) g (is_new w tt))))
+      fits_free s p st (λ k q g. fits_new_name s q q (name_span k q) names _ (fits_make {r = record_of (param_row (name_word k q) last)} {v = 0} (l, tt) (λ now w. h now q _ (since_with w) g (is_new w tt))))
 
   -- A list of parameters has turns enough, for each reads a comma.
   params_work : (f : ℕ) (before : List Rec) (end : ℕ) (names : List Span) (last count : ℕ) (p : Place) → Stands s p

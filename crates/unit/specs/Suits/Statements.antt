@@ -9,15 +9,15 @@ use Rattle.reading.specs.declared.node.Node.{Node}
 use Rattle.reading.specs.Events.{Rec}
 use Rattle.reading.specs.Process.{node_as}
 use Rattle.reading.specs.Suits.{Claim}
-use Rattle.reading.specs.Laws.Suits.{since_same, since_with, since_trans}
-use Rattle.reading.specs.Laws.Rules.{Fits, fits_done, fits_stop, fits_make, fits_call, fits_test, fits_bind}
+use Rattle.reading.proofs.Laws.Suits.{since_same, since_with, since_trans}
+use Rattle.reading.proofs.Laws.Rules.{Fits, fits_done, fits_stop, fits_make, fits_call, fits_test, fits_bind}
 use Rattle.records.specs.declared.kind.Kind.{Kind}
 use Rattle.records.specs.declared.kind.Kind.TheVariants as kinds
 use Rattle.records.specs.Kinds.{Meaning, number_of}
 use Rattle.records.specs.Kinds as table
 use Rattle.records.specs.Rows.{record_of}
 use Rattle.records.specs.Meanings.{is_a, Is, MayBe, none, some, Meant}
-use Rattle.records.specs.Laws.Meanings.{is_since, is_new, maybe_since}
+use Rattle.records.proofs.Laws.Meanings.{is_since, is_new, maybe_since}
 use Rattle.grammar.specs.declared.heads.StatementHead.{StatementHead}
 use Rattle.grammar.specs.declared.heads.StatementHead.TheVariants as head
 use Rattle.grammar.specs.declared.heads.StepHead.{StepHead}

@@ -14,12 +14,12 @@ use Rattle.reading.specs.declared.node.Node.{Node}
 use Rattle.reading.specs.Events.{Rec}
 use Rattle.reading.specs.Process.{make}
 use Rattle.reading.specs.Suits.{Since, Suits}
-use Rattle.reading.specs.Laws.Suits.{since_same, since_with, since_trans}
-use Rattle.reading.specs.Laws.Rules.{Fits, fits_done, fits_stop, fits_make, fits_fresh, fits_call, fits_test, fits_bind}
+use Rattle.reading.proofs.Laws.Suits.{since_same, since_with, since_trans}
+use Rattle.reading.proofs.Laws.Rules.{Fits, fits_done, fits_stop, fits_make, fits_fresh, fits_call, fits_test, fits_bind}
 use Rattle.records.specs.Kinds as table
 use Rattle.records.specs.Rows.{record_of}
 use Rattle.records.specs.Meanings.{Is, MayBe, none, some}
-use Rattle.records.specs.Laws.Meanings.{is_since, is_new, maybe_since, meant_earlier}
+use Rattle.records.proofs.Laws.Meanings.{is_since, is_new, maybe_since, meant_earlier}
 use Rattle.grammar.specs.declared.heads.ItemHead.{ItemHead}
 use Rattle.grammar.specs.declared.heads.ItemHead.TheVariants.{End, Class, Statement, Wrong}
 use Rattle.grammar.specs.Heads.{item_of}

@@ -13,10 +13,10 @@ pub returns-then-b-le57 : goal.returns-then-b-le57
 returns-then-b-le57 c = digit_is _ c.if-b-lt48.false c.if-b-le57.true
 
 pub returns-then-b-lt65 : goal.returns-then-b-lt65
-returns-then-b-lt65 c = no_digit _ _ c.if-b-le57.false (letter_low _ c.if-b-lt65.true)
+returns-then-b-lt65 c = no_digit c.args.b _ (omega arith) (letter_low _ c.if-b-lt65.true)
 
 pub returns-then-b-le90 : goal.returns-then-b-le90
-returns-then-b-le90 c = no_digit _ _ c.if-b-le57.false (letter_upper _ c.if-b-lt65.false c.if-b-le90.true)
+returns-then-b-le90 c = no_digit c.args.b _ (omega arith) (letter_upper _ c.if-b-lt65.false c.if-b-le90.true)
 
 pub returns : goal.returns
-returns c = no_digit _ _ c.if-b-le57.false (letter_between _ c.if-b-le90.false c.if-b-ge97.false)
+returns c = no_digit c.args.b _ (omega arith) (letter_between _ c.if-b-le90.false c.if-b-ge97.false)

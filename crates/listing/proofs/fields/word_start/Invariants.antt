@@ -1,6 +1,6 @@
 -- `word_start` counts spaces. So many words are still to pass. Assumes nothing.
-use Rattle.std.proofs.Common.{⊎_elim, sym, subst, ◌∙◌, ℕ, ◌+◌, ◌-◌, length, rules}
-use Rattle.listing.specs.Laws.Words.{Passing, passing_start, passing_space, passing_other, passing_end, passing_none}
+use Rattle.std.proofs.Common.{◌-◌, length}
+use Rattle.listing.specs.Laws.Words.{Passing}
 use Rattle.listing.proofs.fields.word_start.Given as goal
 
 abbrev pub invariant-loop-left : goal.invariant-loop-left

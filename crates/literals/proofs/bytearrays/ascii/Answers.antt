@@ -1,5 +1,5 @@
 -- `ascii` reads one step of a `\a` run, by its first byte. Assumes nothing.
-use Rattle.std.proofs.Common.{◌∙◌, arith, rules}
+use Rattle.std.proofs.Common.{◌∙◌, arith}
 use Rattle.literals.specs.StringLaws.{byte_in}
 use Rattle.literals.specs.ByteArrayLaws.{ascii_at, ascii_not}
 use Rattle.literals.proofs.bytearrays.ascii.Goals as goal

@@ -1,5 +1,5 @@
 -- `between` skips the blanks between runs. Assumes nothing.
-use Rattle.std.proofs.Common.{◌∙◌, rules}
+use Rattle.std.proofs.Common.{◌∙◌}
 use Rattle.literals.specs.ByteArrayLaws.{between_failed, between_taken, blanks_stand}
 use Rattle.literals.proofs.bytearrays.between.Goals as goal
 

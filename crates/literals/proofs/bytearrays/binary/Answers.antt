@@ -1,5 +1,5 @@
 -- `binary` skips the blanks in a `\b` run. Assumes nothing.
-use Rattle.std.proofs.Common.{◌∙◌, rules}
+use Rattle.std.proofs.Common.{◌∙◌}
 use Rattle.literals.specs.ByteArrayLaws.{binary_failed, binary_taken, blanks_stand}
 use Rattle.literals.proofs.bytearrays.binary.Goals as goal
 

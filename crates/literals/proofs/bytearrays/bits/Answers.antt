@@ -1,7 +1,7 @@
 -- `bits` reads eight bits. Those still to come answer for the whole; those passed bound the value. Assumes nothing.
 use Rattle.std.proofs.Common.{rules}
 use Rattle.characters.specs.PlaceLaws.{room}
-use Rattle.literals.specs.ByteArrayLaws.{Bits, bits_end, bits_room, bits_start, bits_step, bits_wrong}
+use Rattle.literals.specs.ByteArrayLaws.{bits_end, bits_room, bits_start, bits_step, bits_wrong}
 use Rattle.literals.proofs.bytearrays.bits.Goals as goal
 
 pub loop-left-init : goal.loop-left-init

@@ -1,7 +1,5 @@
 -- `bits` reads eight bits. Those still to come answer for the whole; those passed bound the value. Assumes nothing.
-use Rattle.std.proofs.Common.{rules}
-use Rattle.characters.specs.PlaceLaws.{room}
-use Rattle.literals.specs.ByteArrayLaws.{Bits, bits_end, bits_room, bits_start, bits_step, bits_wrong}
+use Rattle.literals.specs.ByteArrayLaws.{Bits}
 use Rattle.literals.proofs.bytearrays.bits.Given as goal
 
 abbrev pub invariant-loop-left : goal.invariant-loop-left

@@ -1,6 +1,6 @@
 -- `bytearray` goes step by step up to the `]`. What is left of the text answers for the whole; each step leaves less of it. Assumes nothing.
-use Rattle.std.proofs.Common.{◌-◌, arith, length, rules}
-use Rattle.literals.specs.ByteArrayLaws.{Reading, byte_further, opened_further, reading_byte, reading_opened, reading_refused, reading_shut, reading_start}
+use Rattle.std.proofs.Common.{arith}
+use Rattle.literals.specs.ByteArrayLaws.{byte_further, opened_further, reading_byte, reading_opened, reading_refused, reading_shut, reading_start}
 use Rattle.literals.proofs.bytearrays.bytearray.Goals as goal
 
 pub loop-value-init : goal.loop-value-init

@@ -1,6 +1,6 @@
 -- `bytearray` goes step by step up to the `]`. What is left of the text answers for the whole; each step leaves less of it. Assumes nothing.
-use Rattle.std.proofs.Common.{◌-◌, arith, length, rules}
-use Rattle.literals.specs.ByteArrayLaws.{Reading, byte_further, opened_further, reading_byte, reading_opened, reading_refused, reading_shut, reading_start}
+use Rattle.std.proofs.Common.{◌-◌, length}
+use Rattle.literals.specs.ByteArrayLaws.{Reading}
 use Rattle.literals.proofs.bytearrays.bytearray.Given as goal
 
 abbrev pub invariant-loop-value : goal.invariant-loop-value

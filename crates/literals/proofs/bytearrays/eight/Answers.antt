@@ -1,5 +1,5 @@
 -- `eight` tells whether a byte of bits stands here. Assumes nothing.
-use Rattle.std.proofs.Common.{◌∙◌, rules}
+use Rattle.std.proofs.Common.{◌∙◌}
 use Rattle.literals.specs.ByteArrayLaws.{eight_none, eight_some}
 use Rattle.literals.proofs.bytearrays.eight.Goals as goal
 

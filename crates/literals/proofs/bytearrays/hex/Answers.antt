@@ -1,5 +1,5 @@
 -- `hex` skips the blanks in a `\x` run. Assumes nothing.
-use Rattle.std.proofs.Common.{◌∙◌, rules}
+use Rattle.std.proofs.Common.{◌∙◌}
 use Rattle.literals.specs.ByteArrayLaws.{blanks_stand, hex_failed, hex_taken}
 use Rattle.literals.proofs.bytearrays.hex.Goals as goal
 

@@ -1,5 +1,5 @@
 -- `line_end` refuses a line end behind a space. Assumes nothing.
-use Rattle.std.proofs.Common.{◌∙◌, arith, rules}
+use Rattle.std.proofs.Common.{◌∙◌, arith}
 use Rattle.literals.specs.ByteArrayLaws.{line_ends, line_space}
 use Rattle.literals.proofs.bytearrays.line_end.Goals as goal
 

@@ -1,5 +1,5 @@
 -- `opening` reads the letter that opens a run. Assumes nothing.
-use Rattle.std.proofs.Common.{ap, ◌∙◌, rules}
+use Rattle.std.proofs.Common.{ap, ◌∙◌}
 use Rattle.literals.specs.declared.bytearrays.Mode.TheVariants.{Ascii, Hex, Binary}
 use Rattle.literals.specs.declared.bytearrays.Seen.TheVariants.{Opened}
 use Rattle.literals.specs.ByteArrayLaws.{opening_at, opening_not}

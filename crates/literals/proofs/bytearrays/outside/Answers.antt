@@ -1,5 +1,5 @@
 -- `outside` reads what stands between runs past the blanks, by its first byte. Assumes nothing.
-use Rattle.std.proofs.Common.{ap, ◌∙◌, arith, rules}
+use Rattle.std.proofs.Common.{ap, ◌∙◌, arith}
 use Rattle.characters.specs.declared.refusal.Refusal.TheVariants.{BadByteArray}
 use Rattle.literals.specs.declared.bytearrays.Seen.TheVariants.{Refused, Shut}
 use Rattle.literals.specs.StringLaws.{byte_in}

@@ -1,5 +1,5 @@
 -- `pair` reads two hex digits. Assumes nothing.
-use Rattle.std.proofs.Common.{sym, ◌∙◌, rules}
+use Rattle.std.proofs.Common.{sym, ◌∙◌}
 use borrow.Author.Tests.{not-true, not-false}
 use Rattle.literals.specs.StringLaws.{byte_in}
 use Rattle.literals.specs.ByteArrayLaws.{alnum_byte, pair_both, pair_first, pair_outside, pair_second}

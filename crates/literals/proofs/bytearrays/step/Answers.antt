@@ -1,5 +1,4 @@
 -- `step` goes by the mode. Assumes nothing.
-use Rattle.std.proofs.Common.{rules}
 use Rattle.literals.specs.ByteArrayLaws.{step_ascii, step_between, step_binary, step_hex}
 use Rattle.literals.proofs.bytearrays.step.Goals as goal
 

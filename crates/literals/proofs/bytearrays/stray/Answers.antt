@@ -1,5 +1,5 @@
 -- `stray` refuses past the character behind a byte. Assumes nothing.
-use Rattle.std.proofs.Common.{ap, ◌∙◌, arith, rules}
+use Rattle.std.proofs.Common.{ap, ◌∙◌, arith}
 use Rattle.characters.specs.declared.refusal.Refusal.TheVariants.{BadByteArray}
 use Rattle.characters.specs.Text.{next}
 use Rattle.literals.specs.declared.bytearrays.Seen.TheVariants.{Refused}

@@ -1,5 +1,5 @@
 -- `decimal` is a run of digits, and what may follow it. The value that the run hands on is held, which changes no answer. Assumes nothing.
-use Rattle.std.proofs.Common.{sym, ap, ◌∙◌, arith, rules, false}
+use Rattle.std.proofs.Common.{sym, ap, ◌∙◌, arith, false}
 use Rattle.characters.specs.declared.refusal.Refusal.TheVariants.{ExpectedDigit}
 use Rattle.literals.specs.Numbers.{decimal_of, exponent_or}
 use Rattle.characters.specs.PlaceLaws.{in_text}
@@ -7,20 +7,18 @@ use Rattle.literals.proofs.NumberParts.{digits_stand, decimal_is, past_dot, past
 use Rattle.literals.proofs.numbers.decimal.Goals as goal
 
 pub dotted-requires : goal.dotted-requires
-dotted-requires c =
-    let e = c.before.before.before.before.before.before.before in (
-      digits_stand false ExpectedDigit 10 (omega arith) e.requires c.decimals-run.ensures c.in-Digits.is,
-      in_text e.args.text.now c.in-Digits.next.offset (omega (arith, c.byte-b.ensures.is)),
-    )
+dotted-requires c = (
+  digits_stand false ExpectedDigit 10 (omega arith) c.requires c.decimals-run.ensures c.in-Digits.is,
+  in_text c.args.text.now c.in-Digits.next.offset (omega (arith, c.byte-b.ensures.is)),
+)
 
 pub returns-then-b-eq46 : goal.returns-then-b-eq46
 returns-then-b-eq46 c =
-    let e = c.before.before.before.before.before.before.before.before in
     c.dotted.ensures
-    ∙ past_dot e.args.text.now c.in-Digits.next c.byte-b.ensures.is
+    ∙ past_dot c.args.text.now c.in-Digits.next c.byte-b.ensures.is
     c.in-Digits.value c.if-b-eq46.true
-    ∙ sym (ap (decimal_of e.args.text.now) c.in-Digits.is)
-    ∙ decimal_is e.args.text.now e.args.at c.decimals-run.ensures
+    ∙ sym (ap (decimal_of c.args.text.now) c.in-Digits.is)
+    ∙ decimal_is c.args.text.now c.args.at c.decimals-run.ensures
 
 pub exponent_or-requires : goal.exponent_or-requires
 exponent_or-requires c =
@@ -29,17 +27,15 @@ exponent_or-requires c =
 
 pub returns-else-b-eq46 : goal.returns-else-b-eq46
 returns-else-b-eq46 c =
-    let e = c.before.before.before.before.before.before.before.before.before in
     c.exponent_or.ensures
-    ∙ ap (exponent_or e.args.text.now c.in-Digits.next) c.integer-plain.ensures
-    ∙ past_plain e.args.text.now c.in-Digits.next
+    ∙ ap (exponent_or c.args.text.now c.in-Digits.next) c.integer-plain.ensures
+    ∙ past_plain c.args.text.now c.in-Digits.next
     c.byte-b.ensures.is c.in-Digits.value
     c.if-b-eq46.false
-    ∙ sym (ap (decimal_of e.args.text.now) c.in-Digits.is)
-    ∙ decimal_is e.args.text.now e.args.at c.decimals-run.ensures
+    ∙ sym (ap (decimal_of c.args.text.now) c.in-Digits.is)
+    ∙ decimal_is c.args.text.now c.args.at c.decimals-run.ensures
 
 pub returns-in-Broken : goal.returns-in-Broken
 returns-in-Broken c =
-    let e = c.before.before.before.before.before in
-    sym (ap (decimal_of e.args.text.now) c.in-Broken.is)
-    ∙ decimal_is e.args.text.now e.args.at c.decimals-run.ensures
+    sym (ap (decimal_of c.args.text.now) c.in-Broken.is)
+    ∙ decimal_is c.args.text.now c.args.at c.decimals-run.ensures

@@ -1,9 +1,9 @@
 -- `decimals` reads a run of decimal digits. The invariant: what is left, with the sum so far, answers for the whole. The measure is what is
 -- left of the text. Assumes nothing.
-use Rattle.std.proofs.Common.{refl, ◌∙◌, false, ◌-◌, length, drop, rules}
+use Rattle.std.proofs.Common.{false, ◌-◌, length, drop}
 use Rattle.literals.specs.Numbers.{run}
 use Rattle.literals.specs.NumberSums.{held_run}
-use Rattle.literals.proofs.NumberRuns.{Going, going_start, digits_some, digits_none, going_decimal, going_past, going_broken, going_end, digit_less, byte_less}
+use Rattle.literals.proofs.NumberRuns.{Going}
 use Rattle.literals.proofs.numbers.decimals.Given as goal
 
 abbrev pub invariant-loop-value : goal.invariant-loop-value

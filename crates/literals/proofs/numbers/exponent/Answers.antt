@@ -1,5 +1,5 @@
 -- `exponent` is the run of digits behind the sign, read as a float. Assumes nothing.
-use Rattle.std.proofs.Common.{sym, ap, ◌∙◌, rules}
+use Rattle.std.proofs.Common.{sym, ap, ◌∙◌}
 use Rattle.literals.specs.Numbers.{float_of}
 use Rattle.literals.specs.NumberLaws.{signed_on}
 use Rattle.literals.proofs.NumberParts.{exponent_is}
@@ -10,12 +10,10 @@ decimals-run-requires c = rw c.signed-p.ensures (signed_on c.args.text.now c.arg
 
 pub returns-in-Digits : goal.returns-in-Digits
 returns-in-Digits c =
-    let e = c.before.before.before.before.before.before in
     sym (ap float_of c.in-Digits.is)
-    ∙ exponent_is e.args.text.now e.args.at c.signed-p.ensures c.decimals-run.ensures
+    ∙ exponent_is c.args.text.now c.args.at c.signed-p.ensures c.decimals-run.ensures
 
 pub returns-in-Broken : goal.returns-in-Broken
 returns-in-Broken c =
-    let e = c.before.before.before.before.before.before in
     sym (ap float_of c.in-Broken.is)
-    ∙ exponent_is e.args.text.now e.args.at c.signed-p.ensures c.decimals-run.ensures
+    ∙ exponent_is c.args.text.now c.args.at c.signed-p.ensures c.decimals-run.ensures

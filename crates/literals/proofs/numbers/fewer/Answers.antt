@@ -1,5 +1,5 @@
 -- `fewer` counts as its definition does: each return is one branch. Assumes nothing.
-use Rattle.std.proofs.Common.{rules, lt-ltb, le-ltb, eq-eqb, ne_eqb}
+use Rattle.std.proofs.Common.{lt-ltb, le-ltb, eq-eqb, ne_eqb}
 use Rattle.literals.specs.NumberSums.{fewer_of}
 use Rattle.literals.proofs.numbers.fewer.Goals as goal
 

@@ -1,5 +1,5 @@
 -- `fraction` is a run of digits, and what may follow it. Assumes nothing.
-use Rattle.std.proofs.Common.{sym, ap, ◌∙◌, arith, rules, false}
+use Rattle.std.proofs.Common.{sym, ap, ◌∙◌, arith, false}
 use Rattle.characters.specs.declared.refusal.Refusal.TheVariants.{ExpectedDigit}
 use Rattle.literals.specs.Numbers.{past_fraction}
 use Rattle.literals.proofs.NumberParts.{digits_stand, fraction_is}
@@ -12,13 +12,11 @@ exponent_or-requires c =
 
 pub returns-in-Digits : goal.returns-in-Digits
 returns-in-Digits c =
-    let e = c.before.before.before.before.before.before in
     c.exponent_or.ensures
-    ∙ sym (ap (past_fraction e.args.text.now) c.in-Digits.is)
-    ∙ fraction_is e.args.text.now e.args.at c.decimals-run.ensures
+    ∙ sym (ap (past_fraction c.args.text.now) c.in-Digits.is)
+    ∙ fraction_is c.args.text.now c.args.at c.decimals-run.ensures
 
 pub returns-in-Broken : goal.returns-in-Broken
 returns-in-Broken c =
-    let e = c.before.before.before.before.before in
-    sym (ap (past_fraction e.args.text.now) c.in-Broken.is)
-    ∙ fraction_is e.args.text.now e.args.at c.decimals-run.ensures
+    sym (ap (past_fraction c.args.text.now) c.in-Broken.is)
+    ∙ fraction_is c.args.text.now c.args.at c.decimals-run.ensures

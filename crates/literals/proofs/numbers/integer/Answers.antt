@@ -1,5 +1,5 @@
 -- `integer` accepts below 2^63, where the cast keeps the value. Assumes nothing.
-use Rattle.std.proofs.Common.{rules, arith, le-leb}
+use Rattle.std.proofs.Common.{arith, le-leb}
 use borrow.Author.Tests.{lt-leb}
 use mir.Syntax.{w64}
 use mir.ValLaws.{to_z_pos}

@@ -1,9 +1,7 @@
 -- `limited` reads the digits of `0x` and `0b`. The invariant is that of `decimals`, and the count of digits that may follow is right.
 -- Assumes nothing.
-use Rattle.std.proofs.Common.{refl, true, ◌-◌, arith, length, drop, rules}
-use Rattle.literals.specs.Numbers.{run}
-use Rattle.literals.specs.NumberSums.{held_run}
-use Rattle.literals.proofs.NumberRuns.{Going, going_start, going_limited, going_full, going_past, going_broken, going_end, digit_less, byte_less}
+use Rattle.std.proofs.Common.{refl, arith, rules}
+use Rattle.literals.proofs.NumberRuns.{going_start, going_limited, going_full, going_past, going_broken, going_end, digit_less, byte_less}
 use Rattle.literals.proofs.numbers.limited.Goals as goal
 
 pub loop-p-init : goal.loop-p-init
@@ -11,22 +9,19 @@ loop-p-init c = going_start refl c.requires.0 (omega arith)
 
 pub returns-then-left-eq0 : goal.returns-then-left-eq0
 returns-then-left-eq0 c =
-    let l = c.before.before.before.before in
-    going_full l.loop.invariant l.before.before.requires.2 c.byte-b.ensures.is
+    going_full c.loop-p.invariant c.requires.2 c.byte-b.ensures.is
     c.digit-d.ensures c.if-d-radix.true c.if-left-eq0.true
 
 pub loop-p-smaller-then-d-radix : goal.loop-p-smaller-then-d-radix
 loop-p-smaller-then-d-radix c =
-    let l = c.before.before.before.before.before.before.before in
-    digit_less l.before.before.args.text.now l.loop.p c.on-p.result
+    digit_less c.args.text.now c.loop-p.p c.on-p.result
     c.byte-b.result c.digit-d.result
     c.byte-b.ensures.is c.digit-d.ensures
-    (omega (arith, l.before.before.requires.1.small)) c.on-p.ensures
+    (omega (arith, c.requires.1.small)) c.on-p.ensures
 
 pub loop-p-preserved-then-d-radix : goal.loop-p-preserved-then-d-radix
 loop-p-preserved-then-d-radix c =
-    let l = c.before.before.before.before.before.before.before in
-    going_limited l.loop.invariant l.before.before.requires.2 l.before.before.requires.1
+    going_limited c.loop-p.invariant c.requires.2 c.requires.1
     c.byte-b.ensures.is c.digit-d.ensures
     c.if-d-radix.true c.if-left-eq0.false c.fewer-left.ensures
     c.sum-value.ensures c.on-p.ensures

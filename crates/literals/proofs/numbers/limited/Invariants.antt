@@ -1,9 +1,9 @@
 -- `limited` reads the digits of `0x` and `0b`. The invariant is that of `decimals`, and the count of digits that may follow is right.
 -- Assumes nothing.
-use Rattle.std.proofs.Common.{refl, true, ◌-◌, arith, length, drop, rules}
+use Rattle.std.proofs.Common.{true, ◌-◌, length, drop}
 use Rattle.literals.specs.Numbers.{run}
 use Rattle.literals.specs.NumberSums.{held_run}
-use Rattle.literals.proofs.NumberRuns.{Going, going_start, going_limited, going_full, going_past, going_broken, going_end, digit_less, byte_less}
+use Rattle.literals.proofs.NumberRuns.{Going}
 use Rattle.literals.proofs.numbers.limited.Given as goal
 
 abbrev pub invariant-loop-p : goal.invariant-loop-p

@@ -1,7 +1,7 @@
 -- `digits_end` goes along digits. Assumes nothing.
-use Rattle.std.proofs.Common.{refl, ◌-◌, length, rules}
+use Rattle.std.proofs.Common.{◌-◌, length}
 use Rattle.characters.specs.Names.{is_digit}
-use Rattle.characters.specs.CountLaws.{In, run_starts, run_on, run_ends, run_out}
+use Rattle.characters.specs.CountLaws.{In}
 use Rattle.literals.proofs.plain.digits_end.Given as goal
 
 abbrev pub invariant-loop-i : goal.invariant-loop-i

@@ -1,5 +1,5 @@
 -- `goes_on` knows the bytes of names and the dot. Assumes nothing.
-use Rattle.std.proofs.Common.{refl, sym, ◌∙◌, ◌||◌, eqb, rules}
+use Rattle.std.proofs.Common.{refl, sym, ◌∙◌}
 use Rattle.literals.proofs.plain.goes_on.Goals as goal
 
 pub returns-then-is_name_byte : goal.returns-then-is_name_byte

@@ -1,5 +1,4 @@
 -- `int_end` tests how many digits there are, and the byte behind them. Assumes nothing.
-use Rattle.std.proofs.Common.{rules}
 use Rattle.literals.proofs.Plains.{int_none, int_long, int_more, int_ends, behind}
 use Rattle.literals.proofs.plain.int_end.Goals as goal
 

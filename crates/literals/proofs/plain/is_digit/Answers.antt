@@ -1,5 +1,5 @@
 -- `is_digit` knows the decimal digits. Assumes nothing.
-use Rattle.std.proofs.Common.{refl, le-leb, rules}
+use Rattle.std.proofs.Common.{refl, le-leb}
 use borrow.Author.Tests.{lt-leb}
 use Rattle.literals.proofs.plain.is_digit.Goals as goal
 

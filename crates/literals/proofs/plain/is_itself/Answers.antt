@@ -1,5 +1,5 @@
 -- `is_itself` knows printable ASCII without the backslash. Assumes nothing.
-use Rattle.std.proofs.Common.{refl, le-leb, rules}
+use Rattle.std.proofs.Common.{refl, le-leb}
 use borrow.Author.Tests.{lt-leb}
 use Rattle.literals.proofs.plain.is_itself.Goals as goal
 

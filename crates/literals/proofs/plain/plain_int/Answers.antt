@@ -1,6 +1,6 @@
 -- `plain_int` sums up digits: the value so far and the digits left make the whole. Assumes nothing.
-use Rattle.std.proofs.Common.{◌-◌, arith, rules}
-use Rattle.literals.proofs.Plains.{Valued, valued_starts, valued_room, valued_digit, valued_on, valued_done}
+use Rattle.std.proofs.Common.{arith}
+use Rattle.literals.proofs.Plains.{valued_starts, valued_room, valued_digit, valued_on, valued_done}
 use Rattle.literals.proofs.plain.plain_int.Goals as goal
 
 pub loop-i-init : goal.loop-i-init

@@ -1,6 +1,6 @@
 -- `plain_int` sums up digits: the value so far and the digits left make the whole. Assumes nothing.
-use Rattle.std.proofs.Common.{◌-◌, arith, rules}
-use Rattle.literals.proofs.Plains.{Valued, valued_starts, valued_room, valued_digit, valued_on, valued_done}
+use Rattle.std.proofs.Common.{◌-◌}
+use Rattle.literals.proofs.Plains.{Valued}
 use Rattle.literals.proofs.plain.plain_int.Given as goal
 
 abbrev pub invariant-loop-i : goal.invariant-loop-i

@@ -1,7 +1,7 @@
 -- `plain_string_end` goes along plain bytes, over a run of small letters in one step, to the byte that ends them. Assumes nothing.
-use Rattle.std.proofs.Common.{◌-◌, length, arith, rules}
+use Rattle.std.proofs.Common.{arith}
 use Rattle.characters.specs.CountLaws.{run_starts}
-use Rattle.literals.proofs.Plains.{InString, quote_inside, string_over, string_out, string_shut, string_on, string_not}
+use Rattle.literals.proofs.Plains.{quote_inside, string_over, string_out, string_shut, string_on, string_not}
 use Rattle.literals.proofs.plain.plain_string_end.Goals as goal
 
 pub bounds-text-at : goal.bounds-text-at

@@ -1,21 +1,8 @@
 -- `small_end` goes along small letters: from each of them the run has the same end. Assumes nothing.
-use Rattle.std.proofs.Common.{refl, ◌+◌, ◌-◌, length, arith, rules}
+use Rattle.std.proofs.Common.{refl, arith}
 use Rattle.characters.specs.Names.{is_small}
-use Rattle.characters.specs.CountLaws.{In, run_starts, run_on, run_ends, run_out}
+use Rattle.characters.specs.CountLaws.{run_starts, run_on, run_ends, run_out}
 use Rattle.literals.proofs.plain.small_end.Goals as goal
-
--- past the bytes of a turn, one by one
-past_one : (c : tie.Else1 invariant-loop decreases-loop invariant-loop2 decreases-loop2) → In is_small c.before.before.before.before.before.before.args.text.now c.before.before.before.before.before.before.args.from (c.before.before.before.before.loop.i + 1)
-past_one c = run_on is_small c.before.before.before.before.before.before.args.text.now _ c.before.before.before.before.loop.invariant c.before.is-small.ensures c.if1.false (omega arith) (omega arith)
-
-past_two : (c : tie.Else2 invariant-loop decreases-loop invariant-loop2 decreases-loop2) → In is_small c.before.before.before.before.before.before.before.before.before.args.text.now c.before.before.before.before.before.before.before.before.before.args.from (c.before.before.before.before.before.before.before.loop.i + 2)
-past_two c = run_on is_small c.before.before.before.before.before.before.before.before.before.args.text.now _ (past_one c.before.before.before) c.before.is-small2.ensures c.if2.false (omega arith) (omega arith)
-
-past_three : (c : tie.Else3 invariant-loop decreases-loop invariant-loop2 decreases-loop2) → In is_small c.before.before.before.before.before.before.before.before.before.before.before.before.args.text.now c.before.before.before.before.before.before.before.before.before.before.before.before.args.from (c.before.before.before.before.before.before.before.before.before.before.loop.i + 3)
-past_three c = run_on is_small c.before.before.before.before.before.before.before.before.before.before.before.before.args.text.now _ (past_two c.before.before.before) c.before.is-small3.ensures c.if3.false (omega arith) (omega arith)
-
-past-four : (c : tie.Else4 invariant-loop decreases-loop invariant-loop2 decreases-loop2) → In is_small c.before.before.before.before.before.before.before.before.before.before.before.before.before.before.before.args.text.now c.before.before.before.before.before.before.before.before.before.before.before.before.before.before.before.args.from (c.before.before.before.before.before.before.before.before.before.before.before.before.before.loop.i + 4)
-past-four c = run_on is_small c.before.before.before.before.before.before.before.before.before.before.before.before.before.before.before.args.text.now _ (past_three c.before.before.before) c.before.is-small4.ensures c.if4.false (omega arith) (omega arith)
 
 pub loop-i-init : goal.loop-i-init
 loop-i-init c = run_starts is_small _ c.requires.0
@@ -24,16 +11,29 @@ pub returns-then-not-is_small : goal.returns-then-not-is_small
 returns-then-not-is_small c = run_ends is_small c.args.text.now _ c.loop-i.invariant c.is_small.ensures c.if-not-is_small.true-raw refl (omega arith)
 
 pub returns-then-not-is_small-2 : goal.returns-then-not-is_small-2
-returns-then-not-is_small-2 c = run_ends is_small c.args.text.now _ (past_one c.before.before.before) c.is_small-in-loop-i.ensures c.if-not-is_small-2.true-raw refl (omega arith)
+returns-then-not-is_small-2 c =
+    let one = run_on is_small c.args.text.now _ c.loop-i.invariant c.is_small.ensures c.if-not-is_small.false-raw (omega arith) (omega arith) in
+    run_ends is_small c.args.text.now _ one c.is_small-in-loop-i.ensures c.if-not-is_small-2.true-raw refl (omega arith)
 
 pub returns-then-not-is_small-3 : goal.returns-then-not-is_small-3
-returns-then-not-is_small-3 c = run_ends is_small c.args.text.now _ (past_two c.before.before.before) c.is_small-in-loop-i-2.ensures c.if-not-is_small-3.true-raw refl (omega arith)
+returns-then-not-is_small-3 c =
+    let one = run_on is_small c.args.text.now _ c.loop-i.invariant c.is_small.ensures c.if-not-is_small.false-raw (omega arith) (omega arith) in
+    let two = run_on is_small c.args.text.now _ one c.is_small-in-loop-i.ensures c.if-not-is_small-2.false-raw (omega arith) (omega arith) in
+    run_ends is_small c.args.text.now _ two c.is_small-in-loop-i-2.ensures c.if-not-is_small-3.true-raw refl (omega arith)
 
 pub returns-then-not-is_small-4 : goal.returns-then-not-is_small-4
-returns-then-not-is_small-4 c = run_ends is_small c.args.text.now _ (past_three c.before.before.before) c.is_small-in-loop-i-3.ensures c.if-not-is_small-4.true-raw refl (omega arith)
+returns-then-not-is_small-4 c =
+    let one = run_on is_small c.args.text.now _ c.loop-i.invariant c.is_small.ensures c.if-not-is_small.false-raw (omega arith) (omega arith) in
+    let two = run_on is_small c.args.text.now _ one c.is_small-in-loop-i.ensures c.if-not-is_small-2.false-raw (omega arith) (omega arith) in
+    let three = run_on is_small c.args.text.now _ two c.is_small-in-loop-i-2.ensures c.if-not-is_small-3.false-raw (omega arith) (omega arith) in
+    run_ends is_small c.args.text.now _ three c.is_small-in-loop-i-3.ensures c.if-not-is_small-4.true-raw refl (omega arith)
 
 pub loop-i-preserved : goal.loop-i-preserved
-loop-i-preserved c = past-four c
+loop-i-preserved c =
+    let one = run_on is_small c.args.text.now _ c.loop-i.invariant c.is_small.ensures c.if-not-is_small.false-raw (omega arith) (omega arith) in
+    let two = run_on is_small c.args.text.now _ one c.is_small-in-loop-i.ensures c.if-not-is_small-2.false-raw (omega arith) (omega arith) in
+    let three = run_on is_small c.args.text.now _ two c.is_small-in-loop-i-2.ensures c.if-not-is_small-3.false-raw (omega arith) (omega arith) in
+    run_on is_small c.args.text.now _ three c.is_small-in-loop-i-3.ensures c.if-not-is_small-4.false-raw (omega arith) (omega arith)
 
 pub loop-i-2-init : goal.loop-i-2-init
 loop-i-2-init c = c.loop-i.invariant

@@ -1,7 +1,7 @@
 -- `small_end` goes along small letters: from each of them the run has the same end. Assumes nothing.
-use Rattle.std.proofs.Common.{refl, ◌+◌, ◌-◌, length, arith, rules}
+use Rattle.std.proofs.Common.{◌-◌, length}
 use Rattle.characters.specs.Names.{is_small}
-use Rattle.characters.specs.CountLaws.{In, run_starts, run_on, run_ends, run_out}
+use Rattle.characters.specs.CountLaws.{In}
 use Rattle.literals.proofs.plain.small_end.Given as goal
 
 abbrev pub invariant-loop-i : goal.invariant-loop-i

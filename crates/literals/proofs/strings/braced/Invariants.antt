@@ -1,6 +1,6 @@
 -- `braced` reads the digits of `\u{}`. What is left of them answers for the whole; at most six are read. Assumes nothing.
-use Rattle.std.proofs.Common.{◌-◌, rules}
-use Rattle.literals.specs.StringLaws.{Digits, digits_over, digits_room, digits_shut, digits_start, digits_step, unopened}
+use Rattle.std.proofs.Common.{◌-◌}
+use Rattle.literals.specs.StringLaws.{Digits}
 use Rattle.literals.proofs.strings.braced.Given as goal
 
 abbrev pub invariant-loop-at : goal.invariant-loop-at

@@ -1,5 +1,5 @@
 -- `hex_pair` judges the two digits of `\x`. Assumes nothing.
-use Rattle.std.proofs.Common.{arith, rules}
+use Rattle.std.proofs.Common.{arith}
 use Rattle.literals.specs.StringLaws.{pair_high, pair_low, pair_none}
 use Rattle.literals.proofs.strings.hex_pair.Goals as goal
 

@@ -1,5 +1,5 @@
 -- `key` lends what a key spells, by its first byte. Assumes nothing.
-use Rattle.std.proofs.Common.{inl, inr, ◌∙◌, arith, rules}
+use Rattle.std.proofs.Common.{inl, inr, ◌∙◌, arith}
 use Rattle.literals.specs.StringLaws.{byte_in}
 use Rattle.literals.specs.SpellingLaws.{key_name, key_quote}
 use Rattle.literals.proofs.strings.key.Goals as goal

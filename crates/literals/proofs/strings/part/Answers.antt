@@ -1,5 +1,4 @@
 -- `part` lends the bytes between two offsets, as far as there are any. Assumes nothing.
-use Rattle.std.proofs.Common.{rules}
 use Rattle.literals.specs.SpellingLaws.{part_empty, part_long, part_past}
 use Rattle.literals.proofs.strings.part.Goals as goal
 

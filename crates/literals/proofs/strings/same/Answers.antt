@@ -1,6 +1,6 @@
 -- `same` walks over two texts at once. What is left of them compares as they do; each turn leaves less of the first. Assumes nothing.
-use Rattle.std.proofs.Common.{sym, ◌∙◌, ◌-◌, arith, length, rules}
-use Rattle.literals.specs.SpellingLaws.{Comparing, both_end, compare_on, compare_start, differ, first_ends, piece_inside, second_ends}
+use Rattle.std.proofs.Common.{sym, ◌∙◌, arith}
+use Rattle.literals.specs.SpellingLaws.{both_end, compare_on, compare_start, differ, first_ends, piece_inside, second_ends}
 use Rattle.literals.proofs.strings.same.Goals as goal
 
 pub loop-value-init : goal.loop-value-init

@@ -1,5 +1,5 @@
 -- `same_key` compares what two keys spell. Assumes nothing.
-use Rattle.std.proofs.Common.{ap, arith, length, rules}
+use Rattle.std.proofs.Common.{ap, arith, length}
 use Rattle.literals.specs.SpellingLaws.{key_length, same_keys}
 use Rattle.literals.proofs.strings.same_key.Goals as goal
 

@@ -1,6 +1,5 @@
 -- `stray` gives the place of each wrong escape. Assumes nothing.
 use Rattle.std.proofs.Common.{ap, arith, rules}
-use Rattle.characters.specs.Text.{next}
 use Rattle.literals.specs.Strings.{reach}
 use Rattle.literals.specs.StringLaws.{on_stands, stray_hex, stray_short, stray_unknown}
 use Rattle.literals.proofs.strings.stray.Goals as goal

@@ -1,19 +1,16 @@
 -- `string` reads up to the closing quote. What is left of the text answers for the whole; each turn leaves less of it. Assumes nothing.
--- the other variants of an escape
-use Rattle.std.proofs.Common.{⊎_elim, [], ◌∷◌, ap, sym, refl, ◌∙◌, ◌-◌, arith, length, rules}
-use types.Run.{OneOf}
-use denote.Enum.Declared.{tag_of}
+use Rattle.std.proofs.Common.{ℕ, ◌≡◌, ap, sym, refl, ◌∙◌, arith, rules}
 use Rattle.characters.specs.declared.place.Place.{Place}
 use Rattle.characters.specs.PlaceLaws.{past_offset, room}
 use Rattle.literals.specs.declared.strings.Escaped.{Escaped}
 use Rattle.literals.specs.declared.strings.Escaped.TheVariants.{Means, Short, NotHex, Unknown}
 use Rattle.literals.specs.Strings.{strayed}
-use Rattle.literals.specs.StringLaws.{Scanning, Wrong, byte_in, escape_room, no_quote, not_ended, on_stands, scan_on, scan_past, scan_refused, scan_start, scanned, scanned_end}
-use Rattle.literals.specs.contracts.strings.Escaped.{the_type}
+use Rattle.literals.specs.StringLaws.{Wrong, byte_in, escape_room, no_quote, not_ended, on_stands, scan_on, scan_past, scan_refused, scan_start, scanned, scanned_end}
 use Rattle.literals.proofs.strings.string.Goals as goal
 
-wrong : (r : Escaped) → OneOf (1 ∷ 2 ∷ 3 ∷ []) (tag_of the_type r) → Wrong r
-wrong (Means v n) h = ⊎_elim (λ e. omega arith) (λ g. ⊎_elim (λ e. omega arith) (λ e. omega arith) g) h
+-- an escape that is no character is one of the others
+wrong : (r : Escaped) → ((v n : ℕ) → r ≡ Means v n → ⊥) → Wrong r
+wrong (Means v n) h = h v n refl
 wrong (Short n) h = tt
 wrong NotHex h = tt
 wrong Unknown h = tt
@@ -52,7 +49,7 @@ pub stray-wrong-requires : goal.stray-wrong-requires
 stray-wrong-requires c = let w = escape_room c.loop-at.invariant c.byte-b.ensures c.if-b-eq92.true refl c.escape-e.ensures in ((on_stands 1 c.loop-at.invariant.stands (omega arith) c.on-behind.ensures), let z = ap (λ (q : Place). q.offset) c.on-behind.ensures in omega arith)
 
 pub returns-in_default : goal.returns-in_default
-returns-in_default c = c.failed-in_default.ensures ∙ scan_refused c.loop-at.invariant c.byte-b.ensures c.if-b-quote.false c.if-b-eq92.true (wrong c.escape-e.result c.in_default.in_default-own.keys2) c.escape-e.ensures (c.stray-wrong.ensures ∙ ap (λ (q : Place). strayed c.args.text.now q c.escape-e.result) c.on-behind.ensures)
+returns-in_default c = c.failed-in_default.ensures ∙ scan_refused c.loop-at.invariant c.byte-b.ensures c.if-b-quote.false c.if-b-eq92.true (wrong c.escape-e.result c.in_default.not-Means) c.escape-e.ensures (c.stray-wrong.ensures ∙ ap (λ (q : Place). strayed c.args.text.now q c.escape-e.result) c.on-behind.ensures)
 
 pub past-p-requires-else-b-eq92 : goal.past-p-requires-else-b-eq92
 past-p-requires-else-b-eq92 c = search (room, rules)

@@ -1,5 +1,5 @@
 -- `unquoted` leaves out the quotes. Assumes nothing.
-use Rattle.std.proofs.Common.{◌≡◌, ap, ◌∙◌, ℕ, ◌+◌, ◌-◌, arith, rules}
+use Rattle.std.proofs.Common.{◌≡◌, ap, ◌∙◌, ℕ, ◌+◌, ◌-◌, arith}
 use Rattle.characters.specs.Names.{part}
 use Rattle.literals.proofs.strings.unquoted.Goals as goal
 

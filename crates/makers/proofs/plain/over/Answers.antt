@@ -1,5 +1,5 @@
 -- `over` looks at one byte, and past a `=` at a second. Assumes nothing.
-use Rattle.std.proofs.Common.{rules}
+use Rattle.std.proofs.Common.{arith}
 use borrow.Author.Tests.{not-false}
 use Rattle.makers.specs.Laws.PlainEnds.{over_not, over_shut, over_colon, over_assign}
 use Rattle.makers.proofs.plain.over.Goals as goal
@@ -20,4 +20,4 @@ pub returns-in-41 : goal.returns-in-41
 returns-in-41 c = over_shut c.byte-b.ensures c.in-41.is
 
 pub returns-in-41-2 : goal.returns-in-41-2
-returns-in-41-2 c = over_colon c.byte-b.ensures c.if-b-lt58.false c.if-b-lt60.true
+returns-in-41-2 c = over_colon c.byte-b.ensures (omega arith) (omega arith)

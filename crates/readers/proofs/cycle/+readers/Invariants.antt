@@ -5,7 +5,7 @@ use Rattle.makers.specs.Laws.Acts.{begun_then, not_false, not_true, room_of, rea
 use Rattle.makers.specs.Laws.Chaining.{Chaining, chain_assigns, chain_ends, chain_refuses, chaining_room, chaining_starts, choice_begun, choice_full, choice_read, operator_again, operator_full, operator_less, operator_ready, operator_room, operator_stops}
 use Rattle.makers.specs.Laws.Plain.{as_expression, enters, plain_called, plain_counts, plain_first, plain_on, plain_posts, plain_read, plain_term, plain_whole, reads_not, reads_over, ready_not, rest_near}
 use Rattle.makers.specs.Laws.PlainEnds.{near_stands}
-use Rattle.reading.specs.Laws.Does.{too_deep, by_stop}
+use Rattle.reading.proofs.Laws.Does.{too_deep, by_stop}
 use Rattle.readers.specs.Laws.Answers.{list_ready, ready_found, ready_missing, parts_ready}
 use Rattle.readers.specs.Laws.Operands.{Posting, array_made, array_stops, atom_brace, atom_bracket, atom_closed, atom_made, atom_paren, atom_stops, atom_wrong, brace_ready, bracket_ready, call_made, call_many, call_stops, choice_fails, choice_like, choice_made, choice_ready, choice_stops, choice_stops_last, index_fails, index_made, index_stops, lambda_called, operand_ready, paren_fails, paren_read, paren_ready, paren_stops, postfix_read, postfix_stops, posting_called, posting_starts, posts_again, posts_begun, posts_end, posts_less, posts_stops, posts_wrong, prefix_deep, prefix_other, prefix_ready, prefix_signed, prefix_stops, prefix_wrong, signed_room, suffix_begun, suffix_call, suffix_index, suffix_instance, suffix_member}
 use Rattle.makers.specs.Laws.NamesRead.{Dicting, dict_ends, dict_first, dict_follow_end, dict_follow_ends, dict_follow_halts, dict_further, dict_halts, dict_here, dict_next, dict_on, dict_refused, key_taken, pair_clashes, pair_fails, pair_made, pair_ready, pair_stops, taken_packs}

@@ -1,6 +1,5 @@
 -- `count`: the calculus's comparison, where there is room and where there is none. Assumes nothing.
-use Rattle.std.proofs.Common.{rules}
-use Rattle.reading.specs.Laws.Does.{compares_one, compares_none}
+use Rattle.reading.proofs.Laws.Does.{compares_one, compares_none}
 use Rattle.records.proofs.comparisons.count.Goals as goal
 
 pub returns-then-t-limit : goal.returns-then-t-limit

@@ -1,5 +1,4 @@
 -- `kind_of`: the first word. Assumes nothing.
-use Rattle.std.proofs.Common.{rules}
 use Rattle.records.specs.Nodes.{kind_at}
 use Rattle.records.proofs.nodes.kind_of.Goals as goal
 

@@ -1,6 +1,5 @@
 -- `make`: the row laid where there is room, and 6 where there is none. Assumes nothing.
-use Rattle.std.proofs.Common.{rules}
-use Rattle.records.specs.Laws.Nodes.{row_made, row_refused}
+use Rattle.records.proofs.Laws.Nodes.{row_made, row_refused}
 use Rattle.records.proofs.nodes.make.Goals as goal
 
 pub returns-then-made-cap : goal.returns-then-made-cap

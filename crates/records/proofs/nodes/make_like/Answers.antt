@@ -1,5 +1,4 @@
 -- `make_like`: the position is that of the earlier row. Assumes nothing.
-use Rattle.std.proofs.Common.{rules}
 use Rattle.records.proofs.nodes.make_like.Goals as goal
 
 pub returns : goal.returns

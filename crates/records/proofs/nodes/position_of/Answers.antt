@@ -1,5 +1,4 @@
 -- `position_of`: the three words after the kind. Assumes nothing.
-use Rattle.std.proofs.Common.{◌≡◌, rules}
 use Rattle.records.specs.Nodes.{place_at}
 use Rattle.records.proofs.nodes.position_of.Goals as goal
 

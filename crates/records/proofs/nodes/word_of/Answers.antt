@@ -1,6 +1,6 @@
 -- `word_of`: where a record's words stand. Assumes nothing.
-use Rattle.std.proofs.Common.{sym, rules}
-use Rattle.records.specs.Laws.Nodes.{word_in}
+use Rattle.std.proofs.Common.{sym}
+use Rattle.records.proofs.Laws.Nodes.{word_in}
 use Rattle.records.proofs.nodes.word_of.Goals as goal
 
 pub returns : goal.returns

@@ -1,6 +1,6 @@
 -- `lay`: eight stores, each inside the pool, are the row's layout. Assumes nothing.
-use Rattle.std.proofs.Common.{arith, length-set, rules}
-use Rattle.records.specs.Laws.Rows.{lays}
+use Rattle.std.proofs.Common.{arith, length-set}
+use Rattle.records.proofs.Laws.Rows.{lays}
 use Rattle.records.proofs.pool.lay.Goals as goal
 
 pub bounds-pool-base-2 : goal.bounds-pool-base-2

@@ -1,7 +1,6 @@
 -- `put`: the calculus's record, laid where there is room, and 6 where there is none. Assumes nothing.
-use Rattle.std.proofs.Common.{rules}
-use Rattle.reading.specs.Laws.Does.{makes_none}
-use Rattle.records.specs.Laws.Rows.{put_made}
+use Rattle.reading.proofs.Laws.Does.{makes_none}
+use Rattle.records.proofs.Laws.Rows.{put_made}
 use Rattle.records.proofs.pool.put.Goals as goal
 
 pub returns-then-made-cap : goal.returns-then-made-cap

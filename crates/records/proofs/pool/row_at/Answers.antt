@@ -1,6 +1,6 @@
 -- `row_at`: outside the pool there is nothing, and inside it is the row by the kind found. Assumes nothing.
-use Rattle.std.proofs.Common.{sym, ◌∙◌, rules}
-use Rattle.records.specs.Laws.Rows.{row_zero, row_short, row_kind}
+use Rattle.std.proofs.Common.{sym, ◌∙◌}
+use Rattle.records.proofs.Laws.Rows.{row_zero, row_short, row_kind}
 use Rattle.records.proofs.pool.row_at.Goals as goal
 
 pub returns-then-number-eq0 : goal.returns-then-number-eq0

@@ -1,6 +1,5 @@
 -- `Kind::number` is the table's number: each arm knows which kind it is, and computes. Assumes nothing.
 use mathlib.Core.Path.{sym, ap}
-use borrow.Author.Rules.{rules}
 use Rattle.records.specs.Kinds.{number_of}
 use Rattle.records.proofs.kind.Kind.number.Goals as goal
 

@@ -1,7 +1,7 @@
 -- `Kind::of` looks a number up in the list of kinds: each arm computes, and where no arm fits nothing stands. Assumes nothing.
 use mathlib.Core.Path.{sym, ap}
 use Rattle.records.specs.Kinds.{kind_of}
-use Rattle.records.specs.Laws.Kinds.{kind_none}
+use Rattle.records.proofs.Laws.Kinds.{kind_none}
 use Rattle.records.proofs.kind.Kind.of.Goals as goal
 
 pub returns-in_default : goal.returns-in_default

@@ -14,11 +14,11 @@ use Rattle.reading.specs.Process.{Process, Grammar, outside, reading, unlimited}
 use Rattle.reading.specs.Answers.{refusal_of, end_number}
 use Rattle.reading.specs.Demands.{by_limit, Inside, Crosses, AllEarlier}
 use Rattle.reading.specs.Suits.{proper, Choice, AllFine, Suits, Proper}
-use Rattle.reading.specs.Laws.Exact.{below_free, exact}
-use Rattle.reading.specs.Laws.Grows.{Agree, cut_agrees, records_append, reading_grows}
-use Rattle.reading.specs.Laws.Crosses.{cut_inside, cut_exactly}
-use Rattle.reading.specs.Laws.Counts.{reading_inside}
-use Rattle.reading.specs.Laws.Suits.{Ends, Holds, fine_open, whole_meets}
+use Rattle.reading.proofs.Laws.Exact.{below_free, exact}
+use Rattle.reading.proofs.Laws.Grows.{Agree, cut_agrees, records_append, reading_grows}
+use Rattle.reading.proofs.Laws.Crosses.{cut_inside, cut_exactly}
+use Rattle.reading.proofs.Laws.Counts.{reading_inside}
+use Rattle.reading.proofs.Laws.Suits.{Ends, Holds, fine_open, whole_meets}
 
 -- A proper refusal has no limit's number.
 proper_number : (k : Refusal) → T (proper k) → (number_of k ≡ 4) ⊎ (10 ≤ number_of k)

@@ -7,7 +7,7 @@ use Rattle.reading.specs.Events.{Rec, Event, entered, recorded, compared, number
 use Rattle.reading.specs.Limits.{Limits, Verdict, goes, over, judge, judged, cutting, cut}
 use Rattle.reading.specs.Process.{Process, Grammar, reading}
 use Rattle.reading.specs.Demands.{Below, by_limit, Opens, Grows}
-use Rattle.reading.specs.Laws.Exact.{exact}
+use Rattle.reading.proofs.Laws.Exact.{exact}
 
 -- The same, or cut off by a limit.
 abbrev pub Agree : Outcome → Outcome → Type 0

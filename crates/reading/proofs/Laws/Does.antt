@@ -21,9 +21,9 @@ use Rattle.reading.specs.Process.{Process, done, stop, make, compare, fresh, cal
 use Rattle.reading.specs.Answers.{tally_of, Tells}
 use Rattle.reading.specs.Entry.{Opening, permitted, nowhere}
 use Rattle.reading.specs.Says.{Layout, laid, Says, Does, Makes, Compares, Calls}
-use Rattle.reading.specs.Laws.Counts.{tally_records, at_first, first_records}
-use Rattle.reading.specs.Laws.Entry.{permitted_by, not_zero, not_over, entry_long, entry_nesting, entry_unsound, entry_open}
-use Rattle.reading.specs.Laws.Says.{refused_read, says_ended, says_bind, says_bind_stop, says_deep, says_level, says_compared}
+use Rattle.reading.proofs.Laws.Counts.{tally_records, at_first, first_records}
+use Rattle.reading.proofs.Laws.Entry.{permitted_by, not_zero, not_over, entry_long, entry_nesting, entry_unsound, entry_open}
+use Rattle.reading.proofs.Laws.Says.{refused_read, says_ended, says_bind, says_bind_stop, says_deep, says_level, says_compared}
 
 -- A leaf that makes a record: there is room, or there is none.
 pub makes_one : {M : Type 0} {w : Layout M} {cap : ℕ} {t : Tally} {p : Place} {rec : Rec} {v : ℕ} {A : M} → t.records < cap

@@ -16,8 +16,8 @@ use Rattle.reading.specs.Limits.{Limits, limited, Verdict, goes, over, judge, ju
 use Rattle.reading.specs.Process.{Process, bind, Grammar, plain, joined, making, comparing, under, run}
 use Rattle.reading.specs.Answers.{answer_of, answer_from, Tells}
 use Rattle.reading.specs.Says.{Layout, laid, Says, Makes, Compares}
-use Rattle.reading.specs.Laws.Grows.{records_append}
-use Rattle.reading.specs.Laws.Counts.{steps_append, tally_records, tally_comparisons}
+use Rattle.reading.proofs.Laws.Grows.{records_append}
+use Rattle.reading.proofs.Laws.Counts.{steps_append, tally_records, tally_comparisons}
 
 -- Laying some records, and then more.
 pub laid_append : {M : Type 0} (w : Layout M) (pool : M) (made : ℕ) (a b : List Rec)

@@ -19,8 +19,8 @@ use Rattle.reading.specs.declared.answer.Out.TheVariants as out
 use Rattle.reading.specs.Events.{Rec, with_record}
 use Rattle.reading.specs.Process.{Process, Grammar, node_as, node_of}
 use Rattle.reading.specs.Says.{laid, Does, Makes}
-use Rattle.reading.specs.Laws.Says.{read_refused, refused_read, makes_unique}
-use Rattle.reading.specs.Laws.Does.{makes_one, makes_none, made, told, does_pool}
+use Rattle.reading.proofs.Laws.Says.{read_refused, refused_read, makes_unique}
+use Rattle.reading.proofs.Laws.Does.{makes_one, makes_none, made, told, does_pool}
 use Rattle.records.specs.declared.kind.Kind.{Kind}
 use Rattle.records.specs.declared.kind.Kind.TheVariants.{Closure}
 use Rattle.records.specs.declared.row.Row.{Row}
@@ -28,7 +28,7 @@ use Rattle.records.specs.Kinds.{number_of}
 use Rattle.records.specs.Words.{whole_of}
 use Rattle.records.specs.Rows.{record_of, layout, Lent, Lays}
 use Rattle.records.specs.Nodes.{word_at, kind_at, place_at, held_at, held_in, Stored, Keeps, is_leaf, value_by, closure_at, value_at, value_of, node_at, out_of, MakesRow, row_at_place}
-use Rattle.records.specs.Laws.Rows.{row_words, layout_word, layout_before, laid_length, laid_before}
+use Rattle.records.proofs.Laws.Rows.{row_words, layout_word, layout_before, laid_length, laid_before}
 
 -- ---- the words of a record
 

@@ -9,7 +9,7 @@ use Rattle.reading.specs.Events.{Event, entered, recorded, compared, numbered, W
 use Rattle.reading.specs.Limits.{Bound, upto, none, Limits, limited, room, Verdict, goes, over, verdict, judge, judged, cutting, cut}
 use Rattle.reading.specs.Process.{Process, Grammar, under, run, reading}
 use Rattle.reading.specs.Demands.{Below, Inside, AtMost, Counted}
-use Rattle.reading.specs.Laws.Exact.{below_same, under_cut, run_cut, exact}
+use Rattle.reading.proofs.Laws.Exact.{below_same, under_cut, run_cut, exact}
 
 pub steps_append : (a b : List Event) (t : Tally) → steps (a ++ b) t ≡ steps b (steps a t)
 unfolding steps

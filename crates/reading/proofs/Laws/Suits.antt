@@ -16,8 +16,8 @@ use Rattle.reading.specs.Events.{Rec, Event, End, Done, Stop, Crossed, Spent, Ou
 use Rattle.reading.specs.Limits.{free}
 use Rattle.reading.specs.Process.{Process, done, stop, spent, make, compare, fresh, call, test, look, must, bind, Grammar, node_as, joined, under, run}
 use Rattle.reading.specs.Suits.{proper, Since, With, Claim, Choice, Meets, AllFine}
-use Rattle.reading.specs.Laws.Grows.{records_append}
-use Rattle.reading.specs.Laws.Counts.{tally_records}
+use Rattle.reading.proofs.Laws.Grows.{records_append}
+use Rattle.reading.proofs.Laws.Counts.{tally_records}
 
 -- Nothing made yet; one made; and one after the other.
 pub since_same : (before : List Rec) → Since before before

@@ -7,16 +7,16 @@ use Rattle.std.proofs.lemmas.Bool.{lt-leb}
 use Rattle.characters.specs.declared.place.Place.{Place}
 use Rattle.characters.specs.declared.refusal.Refusal.TheVariants.{TooLong, BadNesting, NotUtf8}
 use Rattle.characters.specs.Refusals.{number_of}
-use Rattle.reading.specs.Events.{Which, levels, Rec, End, Done, Stop, Crossed, Spent, ended, records_of, start}
+use Rattle.reading.specs.Events.{Which, Rec, End, Done, Stop, Crossed, Spent, ended, records_of, start}
 use Rattle.reading.specs.Limits.{Limits, cut}
 use Rattle.reading.specs.Process.{Process, Grammar, reading, unlimited}
 use Rattle.reading.specs.Answers.{refusal_of, end_number}
 use Rattle.reading.specs.Demands.{Below, by_limit, Grows, Crosses, Counted, AllEarlier}
 use Rattle.reading.specs.Suits.{Choice, AllFine, Suits}
 use Rattle.reading.specs.Entry.{Opening, permitted, nowhere, gated, opened, entry}
-use Rattle.reading.specs.Laws.Grows.{grows_same, reading_grows}
-use Rattle.reading.specs.Laws.Counts.{reading_inside, inside_counted}
-use Rattle.reading.specs.Laws.Unlimited.{unlimited_exact, unlimited_crossed, number_exactly, reading_fine, reading_earlier}
+use Rattle.reading.proofs.Laws.Grows.{grows_same, reading_grows}
+use Rattle.reading.proofs.Laws.Counts.{reading_inside, inside_counted}
+use Rattle.reading.proofs.Laws.Unlimited.{unlimited_exact, unlimited_crossed, number_exactly, reading_fine, reading_earlier}
 
 pub permitted_by : (L : Limits) → 1 ≤ L.levels → L.levels ≤ 256 → permitted L ≡ true
 permitted_by L a b = rw (le-leb 1 L.levels a, le-leb L.levels 256 b)

@@ -1,12 +1,12 @@
 -- The pool as a whole: records laid from its start on are its first words, row after row, and every other word is as it was. Assumes nothing.
-use Rattle.std.specs.Prelude.{◌≡◌, refl, List, [], ◌∷◌, ◌++◌, ℕ, zero, suc, ◌+◌, ◌*◌, ◌≤◌, length, take, drop}
+use Rattle.std.specs.Prelude.{◌≡◌, refl, List, [], ◌∷◌, ◌++◌, ℕ, suc, ◌+◌, ◌*◌, ◌≤◌, length, take, drop}
 use Rattle.std.proofs.Common.{sym, ap, subst, ◌∙◌, append-nil, append_assoc, arith, length-append, take-append-drop, length-take-le, take_at, drop-drop}
 use Rattle.std.proofs.Math.Seq.{drop-append-add}
 use Rattle.std.proofs.lemmas.List.Edits.{sets-eq}
 use Rattle.reading.specs.Events.{Rec}
 use Rattle.reading.specs.Says.{laid}
 use Rattle.records.specs.Rows.{width, words, layout, rows_of}
-use Rattle.records.specs.Laws.Rows.{laid_length}
+use Rattle.records.proofs.Laws.Rows.{laid_length}
 
 words_length : (r : Rec) → length (words r) ≡ width
 unfolding words

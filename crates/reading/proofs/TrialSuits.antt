@@ -15,9 +15,9 @@ use Rattle.reading.specs.Limits.{Limits, cut}
 use Rattle.reading.specs.Process.{Process, look, must, unlimited}
 use Rattle.reading.specs.Suits.{Since, Claim, Choice, Suits}
 use Rattle.reading.specs.Entry.{Opening, opened, entry}
-use Rattle.reading.specs.Promises.{exact}
-use Rattle.reading.specs.Laws.Suits.{since_with, since_trans}
-use Rattle.reading.specs.Laws.Rules.{Fits, fits_done, fits_stop, fits_make, fits_compare, fits_fresh, fits_call, fits_test, fits_bind}
+use Rattle.reading.proofs.Promises.{exact}
+use Rattle.reading.proofs.Laws.Suits.{since_with, since_trans}
+use Rattle.reading.proofs.Laws.Rules.{Fits, fits_done, fits_stop, fits_make, fits_compare, fits_fresh, fits_call, fits_test, fits_bind}
 use Rattle.reading.specs.Trial.{on, seen, sign, held, shut, Routine, expr, turns, new_name, letters, group, lambda, digit, grammar, items, unit}
 
 -- The rest of the text falls; an answer stands further on, with a record that was made; records refer to earlier ones.

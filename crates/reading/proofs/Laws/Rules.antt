@@ -10,7 +10,7 @@ use Rattle.reading.specs.declared.node.Node.{Node}
 use Rattle.reading.specs.Events.{Rec}
 use Rattle.reading.specs.Process.{Process, done, stop, spent, make, compare, fresh, call, test, look, must, bind, node_as, plain}
 use Rattle.reading.specs.Suits.{proper, Since, With, Claim, Choice, Meets}
-use Rattle.reading.specs.Laws.Suits.{since_same, since_with, since_trans}
+use Rattle.reading.proofs.Laws.Suits.{since_same, since_with, since_trans}
 
 -- Whoever meets a claim meets a weaker one.
 pub meets_weaken : {N : Type 0} (C : Choice N) (m : ℕ) (before : List Rec) (Q R : Claim) (P : Process N)

@@ -14,10 +14,10 @@ use Rattle.reading.specs.Demands.{Below, Grows, Inside, Crosses, Counted, AllEar
 use Rattle.reading.specs.Suits.{Choice, AllFine, Suits, Proper}
 use Rattle.reading.specs.Entry.{Opening, permitted, nowhere, opened, entry}
 use Rattle.reading.specs.Says.{Layout, Calls}
-use Rattle.reading.specs.Laws.Exact as Exact
-use Rattle.reading.specs.Laws.Unlimited as Unlimited
-use Rattle.reading.specs.Laws.Entry as Entry
-use Rattle.reading.specs.Laws.Says as Says
+use Rattle.reading.proofs.Laws.Exact as Exact
+use Rattle.reading.proofs.Laws.Unlimited as Unlimited
+use Rattle.reading.proofs.Laws.Entry as Entry
+use Rattle.reading.proofs.Laws.Says as Says
 
 -- An answer given before reading: "with both counts 0".
 abbrev pub before_reading : ℕ → Place → Answer

@@ -8,7 +8,7 @@ use Rattle.reading.specs.declared.answer.Got.{Got}
 use Rattle.reading.specs.Events.{Rec}
 use Rattle.reading.specs.Process.{node_as}
 use Rattle.reading.specs.Says.{laid, Makes, Compares}
-use Rattle.reading.specs.Laws.Says as Says
+use Rattle.reading.proofs.Laws.Says as Says
 use Rattle.records.specs.declared.kind.Kind.{Kind}
 use Rattle.records.specs.declared.kind.KindAt.TheVariants.{Known}
 use Rattle.records.specs.declared.row.Row.{Row}
@@ -17,11 +17,11 @@ use Rattle.records.specs.Kinds.{number_of, kind_of}
 use Rattle.records.specs.Words.{span_word, span_of, low_of, high_of, whole_of}
 use Rattle.records.specs.Rows.{record_of, width, layout, rows_of, cap_of, Lent, row_at, rows_at}
 use Rattle.records.specs.Nodes.{Keeps, value_of, node_at, MakesRow}
-use Rattle.records.specs.Laws.Kinds as Kinds
-use Rattle.records.specs.Laws.Words as Words
-use Rattle.records.specs.Laws.Rows as Rows
-use Rattle.records.specs.Laws.Pools as Pools
-use Rattle.records.specs.Laws.Nodes as Nodes
+use Rattle.records.proofs.Laws.Kinds as Kinds
+use Rattle.records.proofs.Laws.Words as Words
+use Rattle.records.proofs.Laws.Rows as Rows
+use Rattle.records.proofs.Laws.Pools as Pools
+use Rattle.records.proofs.Laws.Nodes as Nodes
 
 -- KINDS. Each has one number, and a number stands for one kind at most.
 pub known : (k : Kind) → kind_of (number_of k) ≡ Known k

@@ -11,14 +11,14 @@ use Rattle.reading.specs.declared.tally.Tally.{Tally}
 use Rattle.reading.specs.declared.answer.Out.TheVariants.{Read}
 use Rattle.reading.specs.Events.{Rec, with_record}
 use Rattle.reading.specs.Says.{laid, Makes}
-use Rattle.reading.specs.Laws.Does.{makes_one}
+use Rattle.reading.proofs.Laws.Does.{makes_one}
 use Rattle.records.specs.declared.kind.KindAt.{KindAt}
 use Rattle.records.specs.declared.kind.KindAt.TheVariants.{Known}
 use Rattle.records.specs.declared.row.Row.{Row}
 use Rattle.records.specs.declared.row.RowAt.TheVariants.{Here, Nothing}
 use Rattle.records.specs.Kinds.{is_reference, number_of, meaning_at, kind_of}
 use Rattle.records.specs.Rows.{as_field, record_of, width, field_word, words, layout, cap_of, Lent, Lays, row_by, row_from, row_if, row_at, rows_at}
-use Rattle.records.specs.Laws.Kinds.{kind_number}
+use Rattle.records.proofs.Laws.Kinds.{kind_number}
 
 -- ---- the words of a row
 

@@ -1,0 +1,4 @@
+pub mod Promises
+pub mod Laws
+pub mod TrialSuits
+pub mod TrialExamples

@@ -1,25 +1,9 @@
 -- How the tests of `next` lead to the case that is there. Assumes nothing.
-use mathlib.Core.Path.{◌≡◌, refl, sym, ap, ◌∙◌}
-use mathlib.Core.Bool.{Bool, true, false, ◌&&◌}
-use Prim.Native.Nat.{ℕ, ◌+◌, ◌≤◌, ◌<◌}
-use native.Mathlib.Omega.{arith}
-use lib.Dec.{eqb, ltb}
-use lib.ListN.{length}
-use borrow.Author.Tests.{eq-eqb, ne_eqb, lt-ltb, le-ltb}
+use Rattle.std.proofs.Common.{◌≡◌, refl, sym, ap, ◌∙◌, Bool, true, false, ◌&&◌, ℕ, ◌+◌, ◌≤◌, ◌<◌, eqb, ltb, eq-eqb, ne_eqb, lt-ltb, le-ltb}
 use Rattle.characters.specs.Text.{Text, byte_at, ByteOf}
-use Rattle.characters.specs.PlaceLaws.{in_text, at_end}
-use Rattle.cases.specs.declared.Case.{Case}
 use Rattle.cases.specs.declared.Case.TheVariants.{Text as Case-as-Text, End, Bad}
 use Rattle.cases.specs.declared.Size.{Size}
 use Rattle.cases.specs.Cases.{pick_case, is_kind, size_at, SizeOf, text_at, sized_at, opened_at, case_at}
-
--- where the byte is not 256 the list goes on
-pub goes_on : {s : Text} {o b : ℕ} → ByteOf s o b → (b ≡ 256 → ⊥) → o < length s
-goes_on {s} {o} {b} e n = go (ltb o (length s)) refl
-  where
-    go : (t : Bool) → ltb o (length s) ≡ t → o < length s
-    go true t = borrow.Author.Tests.ltb-true o (length s) t
-    go false t = absurd (n (e.is ∙ at_end s o (borrow.Author.Tests.ltb-false o (length s) t)))
 
 both_false : (t : Bool) {u : Bool} → u ≡ false → (t && u) ≡ false
 both_false true z = z

@@ -1,15 +1,8 @@
 -- What the loop over a number's digits keeps, and how it ends. Assumes nothing.
-use mathlib.Core.Path.{◌≡◌, refl, sym, ap, ◌∙◌}
-use mathlib.Core.Bool.{Bool, true, false, ◌&&◌}
-use mathlib.Core.List.{List, [], ◌∷◌}
-use Prim.Native.Nat.{ℕ, suc, ◌+◌, ◌-◌, ◌*◌, ◌≤◌, ◌<◌}
-use native.Mathlib.Omega.{arith}
-use lib.Dec.{leb, ltb}
-use lib.ListN.{length, drop}
-use borrow.Author.Tests.{lt-ltb, le-ltb, le-leb, lt-leb, ltb-true, ltb-false}
+use Rattle.std.proofs.Common.{◌≡◌, refl, sym, ap, ◌∙◌, Bool, true, false, ◌&&◌, ◌∷◌, ℕ, suc, ◌+◌, ◌-◌, ◌*◌, ◌≤◌, ◌<◌, arith, ltb, length, drop, lt-ltb, le-ltb, le-leb, ltb-true, ltb-false}
+use borrow.Author.Tests.{lt-leb}
 use Rattle.characters.specs.Text.{Text, byte_at, ByteOf}
-use Rattle.characters.specs.PlaceLaws.{in_text, from_byte, from_end}
-use Rattle.cases.specs.declared.Size.{Size}
+use Rattle.characters.specs.PlaceLaws.{from_byte, from_end}
 use Rattle.cases.specs.Cases.{is_digit, sized, size_in, size_at, SizeOf}
 
 -- what is left of the number leads to the same answer
@@ -30,10 +23,6 @@ size_digit b l v o e = rw (e, size_in) refl
 size_ends : (b : ℕ) (l : Text) (v o : ℕ) → (ltb v 100000000 && is_digit b) ≡ false → size_in (b ∷ l) v o ≡ sized v o
 unfolding size_in
 size_ends b l v o e = rw (e, size_in) refl
-
--- in a text: one digit on
-pub digit_in : {s : Text} {o b : ℕ} → ByteOf s o b → b ≤ 57 → o < length s
-digit_in {s} {o} {b} e h = in_text s o (let z = e.is in omega arith)
 
 pub sizing_on : {s : Text} {at v o b : ℕ} → Sizing s at v o → v < 100000000 → ByteOf s o b → 48 ≤ b → b ≤ 57 → Sizing s at (v * 10 + (b - 48)) (o + 1)
 sizing_on {s} {at} {v} {o} {b} w h e l u =

@@ -1,8 +1,5 @@
 -- Every line fits in a sheet of 262,209 bytes: the place after it is inside. Assumes nothing.
-use mathlib.Core.List.{List}
-use Prim.Native.Nat.{ℕ, ◌≤◌, ◌<◌}
-use native.Mathlib.Omega.{arith}
-use lib.ListN.{length, get_or}
+use Rattle.std.proofs.Common.{List, ℕ, ◌≤◌, ◌<◌, arith, length, get_or}
 use Rattle.characters.specs.Text.{Text}
 use Rattle.reading.specs.declared.answer.Answer.{Answer}
 use Rattle.listing.specs.Sheets.{Writes, sheet}

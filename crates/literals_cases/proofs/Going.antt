@@ -1,10 +1,7 @@
--- What the walks of the program show on the way: each place stands in the text and is further on. Assumes nothing.
-use mathlib.Core.Path.{◌≡◌, sym, subst, subst⁻¹, ◌∙◌}
-use Prim.Native.Nat.{ℕ, ◌+◌, ◌≤◌, ◌<◌, ◌^◌}
-use native.Mathlib.Omega.{arith}
-use lib.Dec.{T}
-use lib.IntN.{ℤ, pos, negsuc, nat_abs}
-use lib.ListN.{length}
+-- What the program shows on the way: the place after a token stands in the text, what stands between quotes is short, and an integer is a
+-- natural number. Assumes nothing.
+use Rattle.std.proofs.Common.{◌≡◌, sym, subst, ◌∙◌, ℕ, ◌≤◌, ◌<◌, ◌^◌, arith, T, ℤ, pos, negsuc, nat_abs, length}
+use mathlib.Core.Path.{subst⁻¹}
 use lib.Signed.{non_neg}
 use mir.Syntax.{w64}
 use mir.Val.{Fits, SFits, to_z, of_z}
@@ -12,19 +9,12 @@ use mir.ValLaws.{to_z-of_z}
 use Rattle.characters.specs.declared.place.Place.{Place}
 use Rattle.characters.specs.declared.tokens.Look.{Look}
 use Rattle.characters.specs.declared.tokens.Look.TheVariants.{Found}
-use Rattle.characters.specs.Text.{Text, ByteOf, Stands, on_by}
-use Rattle.characters.specs.PlaceLaws.{Advanced, in_text, on_by_stands}
+use Rattle.characters.specs.Text.{Text, Stands}
 use Rattle.characters.specs.Tokens.{token}
 use Rattle.characters.specs.TokenLaws.{TokenOn, token_on}
 use Rattle.literals.specs.NumberLaws.{Small}
 use Rattle.literals.specs.Strings.{key_of}
 use Rattle.literals.specs.SpellingLaws.{key_length}
-
--- over a byte of the text
-pub over : {s : Text} {p q : Place} {b : ℕ} → Stands s p → ByteOf s p.offset b → b < 256 → q ≡ on_by 1 p → Advanced s p q
-over {s} {p} {q} {b} h e l z =
-    let i : p.offset < length s = in_text s p.offset (let y = e.is in omega arith) in
-    subst⁻¹ (λ (x : Place). Advanced s p x) z (record { stands = (on_by_stands s 1 p h (omega arith)).stands; further = omega arith })
 
 -- the place after a token
 pub past_token : {s : Text} {p h n : Place} {r : Look} (w : Text) → Stands s p → r ≡ token s p w → r ≡ Found h n → Stands s n

@@ -1,12 +1,13 @@
 // Lists a Plush script: reads standard input as one unit, and writes its records, one a line, and the last line. An error while reading or
-// writing is said on standard error. A program of the kit has no exit status of its own; the launcher `plushlist` gives one.
+// writing is said on standard error. The program itself always ends with status 0; the launcher `plushlist` gives the exit status.
 #![tactic(auto)]
 
+use std::io::Read;
 use unit::entries::read;
 
-fn main() {
+fn main(rt: HostRuntime) {
     let mut space = io::large_buffer();
-    let got = fill(&mut space);
+    let got = fill(rt, &mut space);
     if got < 0 {
         io::write_all(2, b"plushlist: could not read standard input\n");
         return;
@@ -17,14 +18,16 @@ fn main() {
 
 // Reads until the input ends or the buffer is full, and answers how many bytes there are, or -1 where a read fails. A full buffer holds
 // 65,536 bytes, one more than a text may have: whatever follows them, the answer is refusal 1.
-fn fill(space: &mut [u8]) -> isize {
+fn fill(rt: HostRuntime, space: &mut [u8]) -> isize {
+    let mut input = rt.stdin();
     let mut count: usize = 0;
     while count < space.len() {
-        let got = libc::read(0, &mut space[count..]);
-        if got < 0 {
-            return -1;
-        }
-        let more = io::count(got, &space[count..]);
+        let more = match input.read(&mut space[count..]) {
+            Ok(n) => n,
+            Err(_) => {
+                return -1;
+            }
+        };
         if more == 0 {
             return count as isize;
         }

@@ -26,7 +26,7 @@ const P = {
   list(a, l = nil) { for (let i = a.length - 1; i >= 0; i--) l = {head: a[i], tail: l}; return l; },
   array(l) { const a = []; for (; l !== nil; l = l.tail) a.push(l.head); return a; },
   length(l) { let n = 0; for (; l !== nil; l = l.tail) n++; return n; },
-  getD(l, i, d) { l = P.drop(i, l); return l === nil ? d : l.head; },
+  getOr(l, i, d) { l = P.drop(i, l); return l === nil ? d : l.head; },
   drop(n, l) { for (; n > 0 && l !== nil; n--) l = l.tail; return l; },
   take(n, l) { const a = []; for (; n > 0 && l !== nil; n--, l = l.tail) a.push(l.head); return P.list(a); },
   append(a, b) { return P.list(P.array(a), b); },
@@ -63,15 +63,15 @@ function reading$Process$joined(t, end, es, f) {
   return {end: o.end, events: P.append(es, o.events)};
 }
 
-const words = o => P.array(reading$Events$recordsOf(o.events)).map(r => P.array(records$Rows$words(r)).map(String));
+const words = o => P.array(reading$Events$records_of(o.events)).map(r => P.array(records$Rows$words(r)).map(String));
 
 // The engine has no limits, so the call has the highest: records, levels, comparisons.
 function answer(text, file) {
   const o = grammar$Units$full(P.list(Array.from(text)), 65535, 256, 4294967295, file);
-  const place = reading$Answers$endPlace(o.end);
+  const place = reading$Answers$end_place(o.end);
   return JSON.stringify({
-    number: reading$Answers$endNumber(o.end), line: place.line, column: place.column,
-    records: words(o), comparisons: reading$Events$comparisonsOf(o.events),
+    number: reading$Answers$end_number(o.end), line: place.line, column: place.column,
+    records: words(o), comparisons: reading$Events$comparisons_of(o.events),
   });
 }
 
@@ -80,9 +80,9 @@ function called(line) {
   const [hex, records, nesting, comparisons, file] = line.split(' ');
   const text = P.list(Array.from(Buffer.from(hex, 'hex')));
   const o = grammar$Units$full(text, Number(records), Number(nesting), Number(comparisons), file === '1');
-  const place = reading$Answers$endPlace(o.end), rows = words(o);
-  const counts = [rows.length, reading$Events$comparisonsOf(o.events)];
-  return [reading$Answers$endNumber(o.end), place.line, place.column, ...counts, ...rows.flat()].join(' ');
+  const place = reading$Answers$end_place(o.end), rows = words(o);
+  const counts = [rows.length, reading$Events$comparisons_of(o.events)];
+  return [reading$Answers$end_number(o.end), place.line, place.column, ...counts, ...rows.flat()].join(' ');
 }
 
 // In: a text a line, in hex. Out: an answer a line. With `--file-form` the texts are read in the file form; with `--calls` each

@@ -18,17 +18,17 @@ ROOT = os.path.dirname(os.path.dirname(HERE))
 MODEL = os.path.join(ROOT, "target", "oracle", "model.js")
 
 # A definition is named by crate, file and name.
-ROOTS = [("grammar", "Units", "full"), ("reading", "Events", "recordsOf"), ("reading", "Events", "comparisonsOf"),
-         ("reading", "Answers", "endNumber"), ("reading", "Answers", "endPlace"), ("records", "Rows", "words")]
+ROOTS = [("grammar", "Units", "full"), ("reading", "Events", "records_of"), ("reading", "Events", "comparisons_of"),
+         ("reading", "Answers", "end_number"), ("reading", "Answers", "end_place"), ("records", "Rows", "words")]
 # Definitions in hand.js: how many arguments, and what they reach.
 BY_HAND = {("characters", "Text", "ascii"): (1, []),
            ("reading", "Process", "joined"): (4, [("reading", "Events", "steps")])}
 # What the libraries have: the function in hand.js and its arguments.
-LIBRARY = {"_+_": ("P.add", 2), "_-_": ("P.sub", 2), "_*_": ("P.mul", 2), "_/_": ("P.div", 2), "_%_": ("P.mod", 2),
-           "_^_": ("P.pow", 2), "_++_": ("P.append", 2), "leb": ("P.leb", 2), "ltb": ("P.ltb", 2), "eqb": ("P.eqb", 2),
-           "not": ("P.not", 1), "length": ("P.length", 1), "getD": ("P.getD", 3), "drop": ("P.drop", 2),
+LIBRARY = {"◌+◌": ("P.add", 2), "◌-◌": ("P.sub", 2), "◌*◌": ("P.mul", 2), "◌/◌": ("P.div", 2), "◌%◌": ("P.mod", 2),
+           "◌^◌": ("P.pow", 2), "◌++◌": ("P.append", 2), "leb": ("P.leb", 2), "ltb": ("P.ltb", 2), "eqb": ("P.eqb", 2),
+           "not": ("P.not", 1), "length": ("P.length", 1), "get_or": ("P.getOr", 3), "drop": ("P.drop", 2),
            "take": ("P.take", 2)}
-CONSTRUCTORS = ["zero", "suc", "true", "false", "[]", "_∷_", "pos", "negsuc"]
+CONSTRUCTORS = ["zero", "suc", "true", "false", "[]", "◌∷◌", "pos", "negsuc"]
 # How tightly an operator binds, and whether it groups to the right.
 OPERATORS = {"||": (30, True), "&&": (40, True), "∷": (50, True), "++": (50, True), "+": (60, False), "-": (60, False),
              "*": (70, False), "/": (70, False), "%": (70, False), "^": (80, True)}
@@ -42,12 +42,14 @@ LATE = "Process.test"
 
 WORD = re.compile(r"""
     (?P<blank>\s+|--(?=[\s-])[^\n]*) | "(?P<text>(?:[^"\\]|\\.)*)" | (?P<mark>\[\]|λ|[(){}\[\];,])
-    | (?P<number>0x[0-9A-Fa-f]+|[0-9]+)(?![^\s(){}\[\];,"]) | (?P<name>[^\s(){}\[\];,"]+)""", re.X)
+    | (?P<number>0x[0-9A-Fa-f]+|[0-9]+)(?![^\s(){}\[\];,"])
+    | (?<=[^\s])\.(?P<field>[^\s(){}\[\];,".]+) | (?P<name>[^\s(){}\[\];,".]+|\.(?![^\s(){}\[\];,"]))""", re.X)
 ESCAPES = {"n": "\n", "t": "\t", "r": "\r", "0": "\0"}
 
 
 def words_of(text):
-    """(kind, value) of each word: text, number, or name. Brackets, `[]` and λ are names too."""
+    """(kind, value) of each word: text, number, field, or name. Brackets, `[]`, λ and the dot behind its names are names too.
+    A field is what a dot without blanks follows on: of a record, or of the prefix of a type's constructors."""
     out, at = [], 0
     while at < len(text):
         found = WORD.match(text, at)
@@ -56,6 +58,8 @@ def words_of(text):
             out.append(("text", re.sub(r"\\(.)", lambda m: ESCAPES.get(m.group(1), m.group(1)), value)))
         elif kind == "number":
             out.append(("number", int(value, 0)))
+        elif kind == "field":
+            out.append(("field", value))
         elif kind != "blank":
             out.append(("name", value))
         at = found.end()
@@ -88,28 +92,28 @@ class Module:
             for name in re.findall(r"^\s+(\S+) :", item, re.M):
                 self.scope[name] = ("constructor", words[2] + "." + name)
         elif words[0] == "infix":
-            self.operators[words[2].strip("_")] = (int(words[1]), False)
+            self.operators[words[2].strip("◌")] = (int(words[1]), False)
         elif words[0] in ("abbrev", "unfoldable"):
             name = words[2] if words[1] == "pub" else words[1]
             self.clauses[name] = []
             self.scope[name] = ("function", self.crate, self.name, name)
         elif words[0] in self.clauses:
             self.clauses[words[0]].append(words_of(item))
-        elif len(words) > 1 and "_%s_" % words[1] in self.clauses:
-            self.clauses["_%s_" % words[1]].append(words_of(item))
+        elif len(words) > 1 and "◌%s◌" % words[1] in self.clauses:
+            self.clauses["◌%s◌" % words[1]].append(words_of(item))
 
     def read_use(self, item):
-        found = re.fullmatch(r"use (\S+)\.(\S+)\.the-variants as (\S+)", item)
+        found = re.fullmatch(r"use (\S+)\.(\S+)\.TheVariants as (\S+)", item)
         if found:
             self.prefixes[found.group(3)] = found.group(2)
             return
         path, names = re.fullmatch(r"use (\S+?)\.\{(.*)\}", item).groups()
         path = path.split(".")
         for name in names.replace(",", " ").split():
-            if path[-1] == "the-variants":
+            if path[-1] == "TheVariants":
                 self.scope[name] = ("constructor", path[-2] + "." + name)
-            elif path[0].startswith("Rattle·") and len(path) == 3:
-                self.scope[name] = ("elsewhere", path[0].split("·")[1], path[2], name)
+            elif path[0] == "Rattle" and path[1] != "std" and path[2] == "specs" and len(path) == 4:
+                self.scope[name] = ("elsewhere", path[1], path[3], name)
             elif name in LIBRARY:
                 self.scope[name] = ("library", name)
             elif name in CONSTRUCTORS:
@@ -137,9 +141,9 @@ class Clause:
 
     def __init__(self, home, words, name):
         self.home, self.words, self.at = home, words, 0
-        if name.startswith("_"):
+        if name.startswith("◌"):
             self.patterns = [self.small_pattern()]
-            self.take(name.strip("_"))
+            self.take(name.strip("◌"))
             self.patterns.append(self.small_pattern())
         else:
             self.take(name)
@@ -174,15 +178,17 @@ class Clause:
         kind, value = self.take()
         if kind == "number":
             return "number", value
-        if kind == "text":
+        if kind != "name":
             self.fail()
         if value == "(":
             inner = self.pattern()
             self.take(")")
             return inner
+        if self.peek()[0] == "field":
+            value += "." + self.take()[1]
         found = self.home.find(value)
         # A constructor that the file doesn't import would be a variable, and fit everything.
-        if found is None and value in CONSTRUCTORS:
+        if found is None and (value in CONSTRUCTORS or "." in value):
             self.fail()
         return ("constructor", found[1], []) if found and found[0] == "constructor" else ("variable", value)
 
@@ -196,7 +202,7 @@ class Clause:
             first = ("constructor", first[1], rest)
         if self.sees("∷"):
             self.take()
-            return "constructor", "_∷_", [first, self.pattern()]
+            return "constructor", "◌∷◌", [first, self.pattern()]
         return first
 
     # -- terms
@@ -213,22 +219,27 @@ class Clause:
             if operator in ("&&", "||"):
                 left = ("logic", operator, left, right)
             else:
-                left = ("apply", ("name", "_%s_" % operator), [left, right])
+                left = ("apply", ("name", "◌%s◌" % operator), [left, right])
         return left
 
     def application(self):
         head, arguments = self.small_term(), []
         while True:
-            kind, value = self.peek()
-            if kind == "name" and value.startswith(".") and value != ".":
-                self.take()
-                head, arguments = ("field", applied(head, arguments), value[1:]), []
-            elif kind == "end" or self.sees(*self.home.operators, *ENDS):
+            if self.peek()[0] == "end" or self.sees(*self.home.operators, *ENDS):
                 return applied(head, arguments)
-            else:
-                arguments.append(self.small_term())
+            arguments.append(self.small_term())
 
     def small_term(self):
+        term = self.plain_term()
+        while self.peek()[0] == "field":
+            field = self.take()[1]
+            if term[0] == "name" and term[1] in self.home.prefixes:
+                term = "name", term[1] + "." + field
+            else:
+                term = "field", term, field
+        return term
+
+    def plain_term(self):
         kind, value = self.take()
         if kind != "name":
             return kind, value
@@ -250,9 +261,9 @@ class Clause:
 
     def function(self):
         names = []
-        while not names or not names[-1].endswith("."):
+        while not self.sees("."):
             names.append(self.take()[1])
-        names[-1] = names[-1][:-1]
+        self.take(".")
         return "function", names, self.term()
 
     def cases(self):
@@ -384,7 +395,7 @@ class Writer:
         values = self.terms(arguments, scope)
         if name == "suc":
             return "P.add(%s, 1)" % values[0]
-        if name == "_∷_":
+        if name == "◌∷◌":
             return "P.cons(%s, %s)" % tuple(values)
         if name == LATE:
             values[1:] = ["P.lazy(() => %s)" % value for value in values[1:]]
@@ -436,7 +447,7 @@ class Writer:
             return [plain[name] % value]
         if name == "suc":
             conditions, parts = ["%s !== 0" % value], ["P.sub(%s, 1)" % value]
-        elif name == "_∷_":
+        elif name == "◌∷◌":
             conditions, parts = ["%s !== P.nil" % value], [value + ".head", value + ".tail"]
         else:
             conditions, parts = ["%s.c === %s" % (value, json.dumps(name))], \

@@ -1,6 +1,6 @@
 -- Laws of atoms: the parts of their definition that the readers are held to, where an atom leads, and that its record refers to none.
 -- Assumes nothing.
-use Rattle.std.specs.Prelude.{◌≡◌, refl, Bool, true, false, ◌&&◌, List, [], ◌∷◌, ℕ, zero, suc, ◌+◌, ◌≤◌, ◌<◌, T, eqb}
+use Rattle.std.specs.Prelude.{◌≡◌, refl, Bool, true, false, ◌&&◌, List, ℕ, ◌+◌, ◌≤◌, ◌<◌, T, eqb}
 use Rattle.std.proofs.Common.{sym, ap, subst, ◌∙◌, arith, eqb-true, ne_eqb}
 use Rattle.std.proofs.Math.Path.{subst⁻¹}
 use Rattle.characters.specs.declared.place.Place.{Place}
@@ -22,7 +22,7 @@ use Rattle.literals.specs.ByteArrayLaws.{bytearray_accepted}
 use Rattle.records.specs.declared.kind.Kind.{Kind}
 use Rattle.records.specs.declared.kind.Kind.TheVariants as kinds
 use Rattle.reading.specs.Events.{Rec}
-use Rattle.records.specs.Kinds.{span, expression, number_of}
+use Rattle.records.specs.Kinds.{expression, number_of}
 use Rattle.records.specs.Rows.{record_of}
 use Rattle.records.specs.Nodes.{is_leaf}
 use Rattle.records.specs.Meanings.{is_a, Meant}

@@ -1,5 +1,5 @@
 -- Where the tokens of a list lead: an expected token, and what follows an element. Assumes nothing.
-use Rattle.std.specs.Prelude.{◌≡◌, List, [], ◌∷◌, ℕ, ◌+◌, ◌≤◌, ◌<◌}
+use Rattle.std.specs.Prelude.{◌≡◌, [], ◌∷◌, ℕ, ◌+◌, ◌≤◌}
 use Rattle.std.proofs.Common.{ap, arith}
 use Rattle.characters.specs.declared.place.Place.{Place}
 use Rattle.characters.specs.declared.tokens.Look.{Look}

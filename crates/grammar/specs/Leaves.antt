@@ -1,7 +1,6 @@
 -- What stands at a place: the prefix signs, the atoms, what follows a base, the links of a chain. Assumes nothing.
-use Rattle.std.specs.Prelude.{Bool, true, false, ◌&&◌, ◌||◌, List, [], ◌∷◌, ℕ, zero, suc, ◌+◌, ◌-◌, ◌*◌, leb, ltb, eqb, ℤ, pos, negsuc, length, drop}
+use Rattle.std.specs.Prelude.{true, false, ◌&&◌, ◌||◌, [], ◌∷◌, ℕ, ◌+◌, eqb, ℤ, pos, negsuc, length, drop}
 use Rattle.characters.specs.declared.place.Place.{Place}
-use Rattle.characters.specs.declared.refusal.Refusal.{Refusal}
 use Rattle.characters.specs.declared.refusal.Refusal.TheVariants.{ReservedWord, UnknownAtom, EndOfInput, PostfixIncrement, IncrementAsExpression}
 use Rattle.characters.specs.declared.tokens.Look.{Look}
 use Rattle.characters.specs.declared.tokens.Look.TheVariants.{Found, Missing, Halted}

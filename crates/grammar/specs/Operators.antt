@@ -1,6 +1,6 @@
 -- The operators: "Binding, tightest first: `* / %`; `+ -`; `<< >>`; `<= < >= >`; `== !=`; `&`; `^`; `|`; `&&`; `||`; then `? :`".
 -- Assumes nothing.
-use Rattle.std.specs.Prelude.{Bool, true, false, ◌&&◌, ◌||◌, not, List, [], ◌∷◌, ℕ, zero, suc, get_or}
+use Rattle.std.specs.Prelude.{Bool, true, false, ◌&&◌, ◌||◌, not, List, [], ◌∷◌, ℕ, suc, get_or}
 use Rattle.characters.specs.Text.{Text, ascii}
 use Rattle.characters.specs.Tokens.{spells}
 

@@ -1,5 +1,5 @@
 -- The lines of 01's example `f(1);` and of docs/LISTING.md, by computation. Assumes nothing.
-use Rattle.std.specs.Prelude.{◌≡◌, refl, List, [], ◌∷◌, ◌++◌, map, ℕ, zero, suc, ◌+◌, ◌-◌, replicate}
+use Rattle.std.specs.Prelude.{◌≡◌, refl, List, [], ◌∷◌, ◌++◌, map, ℕ, ◌-◌, replicate}
 use Rattle.characters.specs.Text.{Text, ascii, next, past, tails}
 use Rattle.characters.specs.Names.{same}
 use Rattle.characters.specs.Blanks.{blanks, pass}
@@ -8,7 +8,6 @@ use Rattle.literals.specs.Numbers.{digit_of}
 use Rattle.literals.specs.Strings.{among, closing, decode, digits as codeDigits, escape, hex_by, key_of, letter_of, unicode, value_in, width_in}
 use Rattle.literals.specs.ByteArrays.{ascii as asciiRun, between, binary, bit_of, bits, bytes_of, contents, eight, hex as hexRun, is_alphanumeric, line_end, mark, opening, outside, pair, printed, read, slash, step}
 use Rattle.reading.specs.declared.answer.Answer.{Answer}
-use Rattle.reading.specs.Entry.{nowhere}
 use Rattle.reading.specs.Says.{laid}
 use Rattle.records.specs.declared.kind.Kind.{Kind}
 use Rattle.records.specs.declared.kind.Kind.TheVariants as kinds

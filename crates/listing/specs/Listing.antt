@@ -1,6 +1,6 @@
 -- THE LISTING: the line of each record, out of its row and the text, and the last line. What a field means stands in the table of kinds;
 -- here stands how each meaning prints. Assumes nothing.
-use Rattle.std.specs.Prelude.{Bool, true, false, ◌||◌, List, [], ◌∷◌, ◌++◌, map, ℕ, zero, suc, ◌+◌, ◌-◌, ◌*◌, ◌/◌, ◌%◌, ltb, eqb, length, get_or}
+use Rattle.std.specs.Prelude.{Bool, true, false, ◌||◌, List, [], ◌∷◌, ◌++◌, ℕ, zero, suc, ◌+◌, ◌-◌, ◌/◌, ◌%◌, ltb, eqb, length, get_or}
 use Rattle.characters.specs.declared.place.Place.{Place}
 use Rattle.characters.specs.Text.{Text, ascii, start, on_by}
 use Rattle.characters.specs.Names.{part, same}
@@ -9,8 +9,6 @@ use Rattle.literals.specs.ByteArrays.{bytes_of}
 use Rattle.reading.specs.declared.answer.Answer.{Answer}
 use Rattle.records.specs.declared.kind.Kind.{Kind}
 use Rattle.records.specs.declared.kind.Kind.TheVariants as kinds
-use Rattle.records.specs.declared.kind.KindAt.{KindAt}
-use Rattle.records.specs.declared.kind.KindAt.TheVariants.{Known, Unknown}
 use Rattle.records.specs.declared.row.Row.{Row}
 use Rattle.records.specs.declared.row.RowAt.{RowAt}
 use Rattle.records.specs.declared.row.RowAt.TheVariants.{Here, Nothing}

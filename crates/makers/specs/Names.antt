@@ -18,8 +18,8 @@ use Rattle.reading.specs.Says.{Does}
 use Rattle.records.specs.declared.kind.Kind.TheVariants as kinds
 use Rattle.records.specs.Kinds.{number_of}
 use Rattle.records.specs.Rows.{layout}
-use Rattle.records.specs.Words.{span_of, low_of}
-use Rattle.records.specs.Nodes.{Stored, kind_at, held_at, before_at, value_at, node_at, out_of}
+use Rattle.records.specs.Words.{span_of}
+use Rattle.records.specs.Nodes.{Stored, kind_at, held_at, before_at, node_at, out_of}
 use Rattle.grammar.specs.Leaves.{key_at}
 use Rattle.grammar.specs.Expressions.{Routine, Rule, pair_p, with_key}
 use Rattle.grammar.specs.Functions.{param_p, with_name}

@@ -1,14 +1,14 @@
 -- The code's tables of kinds: their names as one text, and a row of letters for each, which say what has a position and how the fields
 -- print. Both are the table of kinds written out, and antt computes that they are. Assumes nothing.
 use Rattle.std.specs.Prelude.{◌≡◌, refl, Bool, true, false, List, [], ◌∷◌, ◌++◌, map, ℕ, zero, suc, ◌+◌, ◌*◌, ◌≤◌, ◌<◌, ltb, eqb, length, get_or}
-use Rattle.std.proofs.Common.{sym, ap, ◌∙◌, arith, get_or-append-add, ltb-true, ltb-false, eq-eqb, ne_eqb}
+use Rattle.std.proofs.Common.{sym, ap, ◌∙◌, arith, get_or-append-add, ltb-true, ltb-false, ne_eqb}
 use Rattle.std.proofs.Math.ListN.{get_or-append, get_or-eq_default, get_or-map}
 use Rattle.characters.specs.declared.place.Place.{Place}
 use Rattle.characters.specs.Text.{Text}
 use Rattle.records.specs.declared.kind.Kind.{Kind}
 use Rattle.records.specs.declared.kind.KindAt.{KindAt}
 use Rattle.records.specs.declared.kind.KindAt.TheVariants.{Known, Unknown}
-use Rattle.records.specs.Kinds.{number_of, kinds, kind_of}
+use Rattle.records.specs.Kinds.{number_of, kinds}
 use Rattle.records.proofs.Laws.Kinds.{kind_number}
 use Rattle.listing.specs.declared.fields.Form.{Form}
 use Rattle.listing.specs.declared.fields.Form.TheVariants.{Hidden, Plain, Named, Quoted, Array, Float, Int, Prefix, Sign}

@@ -17,8 +17,6 @@ use Rattle.records.specs.declared.kind.Kind.{Kind}
 use Rattle.records.specs.declared.kind.KindAt.{KindAt}
 use Rattle.records.specs.declared.kind.KindAt.TheVariants.{Known, Unknown}
 use Rattle.records.specs.declared.row.Row.{Row}
-use Rattle.records.specs.declared.row.RowAt.{RowAt}
-use Rattle.records.specs.declared.row.RowAt.TheVariants.{Here, Nothing}
 use Rattle.records.specs.Kinds.{number_of, kinds, kind_of}
 use Rattle.records.specs.Rows.{width, row_by, row_if, row_at}
 use Rattle.records.proofs.Laws.Kinds.{kind_number}

@@ -20,13 +20,13 @@ use Rattle.reading.specs.declared.answer.Out.TheVariants as out
 use Rattle.reading.specs.Events.{with_comparison}
 use Rattle.reading.specs.Process.{Process, Grammar, stop, compare, test, bind}
 use Rattle.reading.specs.Says.{laid, Does}
-use Rattle.reading.proofs.Laws.Does.{compares_one, compares_none, by_stop, by_compare, then, stops, told, along, yes_way, no_way, does_more}
+use Rattle.reading.proofs.Laws.Does.{compares_one, compares_none, by_stop, by_compare, then, stops, told, yes_way, no_way, does_more}
 use Rattle.records.specs.declared.kind.Kind.TheVariants as kinds
 use Rattle.records.specs.declared.row.Row.{Row}
 use Rattle.records.specs.Kinds.{number_of}
 use Rattle.records.specs.Rows.{Lent, layout, record_of}
 use Rattle.records.specs.Words.{span_of}
-use Rattle.records.specs.Nodes.{Stored, Keeps, kind_at, held_at, before_at, node_at, out_of, MakesRow}
+use Rattle.records.specs.Nodes.{Keeps, kind_at, held_at, before_at, out_of, MakesRow}
 use Rattle.records.proofs.Laws.Rows.{laid_length}
 use Rattle.records.proofs.Laws.Nodes.{keeps_layout, held_kept, kind_kept, node_kept, held_laid, row_read, row_refused, row_unique, does_keeps, does_length}
 use Rattle.grammar.specs.Expressions.{Routine, Rule, new_key}

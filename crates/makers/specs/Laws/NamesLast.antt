@@ -1,7 +1,7 @@
 -- THE RECORD THAT A RULE MAKES LAST, where its name is to be found later: a function's row holds the name that the routine was given, a class's
 -- row is a class's, and no statement is the declaration of a class. Assumes nothing.
-use Rattle.std.specs.Prelude.{◌≡◌, refl, Bool}
-use Rattle.std.proofs.Common.{sym, subst, ◌∙◌}
+use Rattle.std.specs.Prelude.{◌≡◌, refl}
+use Rattle.std.proofs.Common.{sym, ◌∙◌}
 use Rattle.std.proofs.Math.Path.{ap}
 use Rattle.std.proofs.Math.Bool.{true, false}
 use mathlib.Core.List.{List, [], ◌∷◌, ◌++◌, append_assoc}
@@ -10,18 +10,15 @@ use native.Mathlib.Omega.{arith}
 use Rattle.std.proofs.Math.ListN.{length}
 use Rattle.characters.specs.declared.place.Place.{Place}
 use Rattle.characters.specs.declared.place.Span.{Span}
-use Rattle.characters.specs.declared.tokens.Look.{Look}
 use Rattle.characters.specs.declared.tokens.Look.TheVariants.{Found, Missing, Halted}
-use Rattle.characters.specs.declared.tokens.Must.{Must}
 use Rattle.characters.specs.declared.tokens.Must.TheVariants.{Taken, Failed}
 use Rattle.characters.specs.Text.{Text}
 use Rattle.reading.specs.declared.node.Node.{Node}
 use Rattle.reading.specs.declared.tally.Tally.{Tally}
-use Rattle.reading.specs.declared.answer.Out.{Out}
-use Rattle.reading.specs.declared.answer.Out.TheVariants.{Read, Refused}
-use Rattle.reading.specs.Events.{Rec, Event, entered, recorded, End, Done, Stop, Crossed, Spent, Outcome, ended, cons, records_of, steps}
+use Rattle.reading.specs.declared.answer.Out.TheVariants.{Read}
+use Rattle.reading.specs.Events.{Rec, Event, entered, recorded, End, Done, Stop, Crossed, Spent, Outcome, ended, records_of, steps}
 use Rattle.reading.specs.Limits.{Limits, limited, Verdict, goes, over, judge, judged, guarded}
-use Rattle.reading.specs.Process.{Process, Grammar, done, stop, spent, make, compare, fresh, call, test, look, must, bind, node_of, joined, after, under, run}
+use Rattle.reading.specs.Process.{done, stop, spent, make, compare, fresh, call, test, look, must, bind, node_of, joined, after, under, run}
 use Rattle.reading.specs.Answers.{Tells}
 use Rattle.reading.specs.Says.{laid, Does}
 use Rattle.reading.proofs.Laws.Counts.{steps_append, tally_records}

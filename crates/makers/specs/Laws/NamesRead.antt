@@ -25,7 +25,7 @@ use Rattle.reading.proofs.Laws.Does.{by_done, by_stop, then, stops, told, yes_wa
 use Rattle.records.specs.declared.row.Row.{Row}
 use Rattle.records.specs.Rows.{layout}
 use Rattle.records.specs.Words.{span_word, span_of}
-use Rattle.records.specs.Nodes.{node_at, out_of, MakesRow}
+use Rattle.records.specs.Nodes.{out_of, MakesRow}
 use Rattle.records.proofs.Laws.Words.{span_back}
 use Rattle.records.proofs.Laws.Nodes.{row_as, read_of, refused_of}
 use Rattle.grammar.specs.Leaves.{key_at, close_of, follow_of}

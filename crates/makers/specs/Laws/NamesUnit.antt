@@ -1,8 +1,8 @@
 -- METHODS, AND WHAT THE UNIT DECLARES: each return of the reader of a method, and the functions and classes after each item of the unit.
 -- Assumes nothing.
 use Rattle.std.specs.Prelude.{◌≡◌, Bool, true, false, ◌&&◌, ℕ, ◌+◌, ◌*◌, ◌≤◌, ◌<◌, ltb, eqb, length}
-use Rattle.std.proofs.Math.Path.{refl, subst, subst⁻¹}
-use Rattle.std.proofs.Common.{sym, ap, ◌∙◌, arith, eq-eqb, ne_eqb, lt-ltb}
+use Rattle.std.proofs.Math.Path.{refl, subst}
+use Rattle.std.proofs.Common.{sym, ap, ◌∙◌, arith, ne_eqb, lt-ltb}
 use mathlib.Core.List.{List, [], ◌∷◌, ◌++◌}
 use Rattle.characters.specs.declared.place.Place.{Place}
 use Rattle.characters.specs.declared.place.Span.{Span}
@@ -34,11 +34,11 @@ use Rattle.grammar.specs.Functions.{name_span, name_word, with_name}
 use Rattle.grammar.specs.Classes.{is_init, method_end_p, method_p}
 use Rattle.grammar.specs.Units.{Declared, nothing, is_function, is_constant, declared_name, with_class, declares}
 use Rattle.grammar.specs.Grammar.{grammar}
-use Rattle.grammar.specs.Reads.{Ready, EndsBy, Reads}
+use Rattle.grammar.specs.Reads.{Ready, Reads}
 use Rattle.grammar.specs.ReadLaws.{reads_on, reads_make, ready_then, ready_made, read_ends}
 use Rattle.makers.specs.declared.names.Naming.{Naming}
 use Rattle.makers.specs.declared.names.Naming.TheVariants.{Methods, Functions, Classes}
-use Rattle.makers.specs.Names.{held_if, function_of, class_of, held_by, names_of, Refers, Listed, Kept, Unique, Well, Method, Declares}
+use Rattle.makers.specs.Names.{held_if, function_of, class_of, names_of, Refers, Listed, Kept, Unique, Well, Method, Declares}
 use Rattle.makers.specs.Laws.Names.{read_or_refused, Joins, name_then, name_stops, ready_kept, well_own, listed_none, listed_kept, listed_does, made_room, listed_made}
 use Rattle.makers.specs.Laws.NamesRead.{taken_packs, span_as, ends_off}
 use Rattle.makers.specs.Laws.NamesLast.{function_name, class_value, statement_kind}

@@ -1,5 +1,5 @@
 -- THE WALK OVER NAMES, as code goes: what it finds in a row, how two names compare, and a turn of the walk. Assumes nothing.
-use Rattle.std.specs.Prelude.{◌≡◌, Bool, ◌&&◌, List, [], ◌∷◌, ◌++◌, ℕ, zero, suc, ◌+◌, ◌≤◌, ◌<◌, ◌^◌, leb, get_or, drop}
+use Rattle.std.specs.Prelude.{◌≡◌, Bool, ◌&&◌, List, [], ◌∷◌, ◌++◌, ℕ, suc, ◌+◌, ◌≤◌, ◌<◌, ◌^◌, get_or, drop}
 use Rattle.std.proofs.Math.Path.{refl, sym, ap, subst⁻¹}
 use Rattle.std.proofs.Common.{subst, ◌∙◌, add-one, drop_of_length-le, drop-cons, eq-eqb, ne_eqb, eqb-true, ltb-true, ltb-false, lt-ltb, le-ltb, le-leb}
 use Rattle.std.proofs.Math.Bool.{true, false}
@@ -12,7 +12,7 @@ use Rattle.characters.specs.declared.place.Span.{Span}
 use Rattle.characters.specs.declared.refusal.Refusal.TheVariants.{Duplicate, TooManyComparisons}
 use Rattle.characters.specs.Text.{Text, ByteOf}
 use Rattle.characters.specs.Names.{same}
-use Rattle.literals.specs.declared.strings.Spelled.TheVariants.{End, Char}
+use Rattle.literals.specs.declared.strings.Spelled.TheVariants.{Char}
 use Rattle.literals.specs.Strings.{decoded, piece}
 use Rattle.literals.specs.StringLaws.{not_ended}
 use Rattle.literals.specs.SpellingLaws.{part_length, key_length, piece_none, piece_ascii, Comparing, both_end, first_ends, second_ends, differ, compare_on}
@@ -23,7 +23,6 @@ use Rattle.reading.specs.Events.{with_comparison}
 use Rattle.records.specs.Words.{span_of, low_of, high_of, whole_of}
 use Rattle.records.specs.Nodes.{Stored, word_at, kind_at, held_at, before_at, closure_at, value_by, role_by, value_at, node_at}
 use Rattle.records.proofs.Laws.Words.{low_back, high_back}
-use Rattle.records.proofs.Laws.Nodes.{closure_earlier}
 use Rattle.grammar.specs.Units.{is_function, declared_name}
 use Rattle.makers.specs.declared.names.Naming.{Naming}
 use Rattle.makers.specs.declared.names.Held.{Held}

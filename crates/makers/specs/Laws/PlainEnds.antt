@@ -2,7 +2,7 @@
 -- Assumes nothing.
 use Rattle.std.specs.Prelude.{◌≡◌, Bool, true, false, ◌&&◌, ◌||◌, not, ◌⊎◌, ℕ, zero, suc, ◌+◌, ◌≤◌, ◌<◌, eqb, drop}
 use Rattle.std.proofs.Math.Path.{refl, ap, subst⁻¹}
-use Rattle.std.proofs.Common.{sym, subst, ◌∙◌, inl, inr, ⊎_elim, arith, ne_eqb, eqb-true, le-ltb}
+use Rattle.std.proofs.Common.{sym, ◌∙◌, inl, inr, ⊎_elim, arith, ne_eqb, eqb-true, le-ltb}
 use mathlib.Core.List.{[], ◌∷◌}
 use Rattle.std.proofs.lemmas.Bool.{eqb-false, not-true}
 use Rattle.characters.specs.declared.place.Place.{Place}

@@ -1,5 +1,5 @@
 -- `assign_of` goes by the first byte. Assumes nothing.
-use Rattle.std.proofs.Common.{arith, rules}
+use Rattle.std.proofs.Common.{arith}
 use Rattle.characters.specs.Tokens.{spells}
 use Rattle.grammar.specs.Heads.{assign_in}
 use Rattle.grammar.proofs.Heading.{assign_first, assign_none, equals_twice, equals_once}

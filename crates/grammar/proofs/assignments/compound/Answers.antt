@@ -1,5 +1,4 @@
 -- `compound` compares one byte. Assumes nothing.
-use Rattle.std.proofs.Common.{rules}
 use Rattle.grammar.proofs.Heading.{compound_none, compound_taken}
 use Rattle.grammar.proofs.assignments.compound.Goals as goal
 

@@ -1,5 +1,4 @@
 -- `shift` compares two bytes. Assumes nothing.
-use Rattle.std.proofs.Common.{rules}
 use Rattle.grammar.proofs.Heading.{shift_none, shift_alone, shift_taken}
 use Rattle.grammar.proofs.assignments.shift.Goals as goal
 

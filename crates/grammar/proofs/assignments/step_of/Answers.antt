@@ -1,5 +1,5 @@
 -- `step_of` looks at one byte, and at a second only where the first could double. Assumes nothing.
-use Rattle.std.proofs.Common.{arith, rules}
+use Rattle.std.proofs.Common.{arith}
 use Rattle.grammar.proofs.Heading.{step_rest, plus_alone, minus_alone, doubled, two_here}
 use Rattle.grammar.proofs.assignments.step_of.Goals as goal
 

@@ -1,5 +1,5 @@
 -- `target` steps over the sign and skips the blanks. Assumes nothing.
-use Rattle.std.proofs.Common.{refl, ap, ◌∙◌, rules}
+use Rattle.std.proofs.Common.{refl, ap, ◌∙◌}
 use Rattle.characters.specs.Blanks.{blanks}
 use Rattle.grammar.specs.Heads.{step_past}
 use Rattle.grammar.proofs.Heading.{told, onward}

@@ -1,5 +1,5 @@
 -- `hash_atom` reads on where a `[` follows. Assumes nothing.
-use Rattle.std.proofs.Common.{arith, rules}
+use Rattle.std.proofs.Common.{arith}
 use Rattle.characters.specs.PlaceLaws.{room}
 use Rattle.literals.specs.StringLaws.{byte_in, on_stands}
 use Rattle.grammar.specs.AtomLaws.{bytearray_spans}

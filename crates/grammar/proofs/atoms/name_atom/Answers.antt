@@ -1,5 +1,5 @@
 -- `name_atom` reads a name and looks at its word. Assumes nothing.
-use Rattle.std.proofs.Common.{arith, rules}
+use Rattle.std.proofs.Common.{arith}
 use Rattle.grammar.proofs.Atomic.{name_ends, name_by, name_fails}
 use Rattle.grammar.proofs.atoms.name_atom.Goals as goal
 

@@ -1,5 +1,4 @@
 -- `number_atom` takes an int's value, or a float's span. Assumes nothing.
-use Rattle.std.proofs.Common.{rules}
 use Rattle.literals.specs.NumberLaws.{int_small}
 use Rattle.grammar.proofs.Atomic.{int_casts, int_by, float_spans, float_by, bad_by}
 use Rattle.grammar.proofs.atoms.number_atom.Goals as goal

@@ -1,5 +1,5 @@
 -- `span_atom` answers what was read. Assumes nothing.
-use Rattle.std.proofs.Common.{refl, rules}
+use Rattle.std.proofs.Common.{refl}
 use Rattle.grammar.proofs.Atomic.{near_end, leaf_as, span_by_lem}
 use Rattle.grammar.proofs.atoms.span_atom.Goals as goal
 

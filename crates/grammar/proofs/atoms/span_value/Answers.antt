@@ -1,5 +1,4 @@
 -- `span_value` packs the span in one word. Assumes nothing.
-use Rattle.std.proofs.Common.{rules}
 use Rattle.grammar.proofs.atoms.span_value.Goals as goal
 
 pub returns : goal.returns

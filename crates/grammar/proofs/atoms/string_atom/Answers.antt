@@ -1,5 +1,5 @@
 -- `string_atom` takes the string's span. Assumes nothing.
-use Rattle.std.proofs.Common.{sym, rules}
+use Rattle.std.proofs.Common.{sym}
 use Rattle.grammar.specs.AtomLaws.{string_on}
 use Rattle.grammar.proofs.Atomic.{offset_near, span_near, span_by_lem}
 use Rattle.records.specs.declared.kind.Kind.TheVariants as kinds

@@ -1,5 +1,5 @@
 -- `word_atom` tells the words apart by their numbers. Assumes nothing.
-use Rattle.std.proofs.Common.{refl, rules}
+use Rattle.std.proofs.Common.{refl}
 use Rattle.grammar.proofs.Atomic.{leaf_as, word_at, word_none}
 use Rattle.grammar.proofs.atoms.word_atom.Goals as goal
 

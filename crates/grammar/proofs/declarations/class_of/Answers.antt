@@ -1,5 +1,5 @@
 -- `class_of` compares the keyword only where its first byte may stand. Assumes nothing.
-use Rattle.std.proofs.Common.{refl, arith, rules}
+use Rattle.std.proofs.Common.{refl, arith}
 use borrow.Author.Tests.{not-true}
 use Rattle.characters.specs.Text.{ascii}
 use Rattle.characters.specs.PlaceLaws.{room}

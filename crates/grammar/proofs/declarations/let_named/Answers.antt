@@ -1,5 +1,5 @@
 -- `let_named` reads the name, takes the `=` and packs the span. Assumes nothing.
-use Rattle.std.proofs.Common.{refl, rules}
+use Rattle.std.proofs.Common.{refl}
 use Rattle.grammar.specs.Heads.{let_named, let_to}
 use Rattle.grammar.proofs.Heading.{told, named_stands, named_fits, let_spans}
 use Rattle.grammar.proofs.declarations.let_named.Goals as goal

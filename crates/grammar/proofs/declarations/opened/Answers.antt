@@ -1,5 +1,5 @@
 -- `opened` takes the brace. Assumes nothing.
-use Rattle.std.proofs.Common.{refl, rules}
+use Rattle.std.proofs.Common.{refl}
 use Rattle.grammar.specs.Heads.{opened_by}
 use Rattle.grammar.proofs.Heading.{told}
 use Rattle.grammar.proofs.declarations.opened.Goals as goal

@@ -1,5 +1,5 @@
 -- `parent` reads the name, packs its span and takes the brace. Assumes nothing.
-use Rattle.std.proofs.Common.{refl, ap, ◌∙◌, ℕ, rules}
+use Rattle.std.proofs.Common.{refl, ap, ◌∙◌, ℕ}
 use Rattle.characters.specs.Text.{ascii}
 use Rattle.characters.specs.Tokens.{expected}
 use Rattle.grammar.specs.Heads.{opened_by, parent_by}

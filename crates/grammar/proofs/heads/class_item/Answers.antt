@@ -1,5 +1,5 @@
 -- `class_item` tests the keyword and looks at what follows. Assumes nothing.
-use Rattle.std.proofs.Common.{ap, ◌∙◌, rules}
+use Rattle.std.proofs.Common.{ap, ◌∙◌}
 use borrow.Author.Tests.{not-true, not-false}
 use Rattle.characters.specs.Text.{ascii}
 use Rattle.grammar.specs.declared.heads.ItemHead.TheVariants.{Class}

@@ -1,5 +1,4 @@
 -- `end_of` looks for the end of the text before it skips any blanks. Assumes nothing.
-use Rattle.std.proofs.Common.{rules}
 use Rattle.grammar.proofs.Heading.{end_here, end_past}
 use Rattle.grammar.proofs.heads.end_of.Goals as goal
 

@@ -1,5 +1,5 @@
 -- `head_at` goes by the first byte. Assumes nothing.
-use Rattle.std.proofs.Common.{ap, ◌∙◌, ℕ, rules}
+use Rattle.std.proofs.Common.{ap, ◌∙◌, ℕ}
 use Rattle.grammar.specs.declared.heads.StatementHead.TheVariants.{Block}
 use Rattle.grammar.specs.Heads.{head_by}
 use Rattle.grammar.proofs.Heading.{told, keyed, letter_head, sign_rest}

@@ -1,5 +1,5 @@
 -- `item_at` goes by the first byte. Assumes nothing.
-use Rattle.std.proofs.Common.{◌∙◌, ℕ, rules}
+use Rattle.std.proofs.Common.{◌∙◌, ℕ}
 use Rattle.grammar.specs.Heads.{item_by}
 use Rattle.grammar.proofs.Heading.{keyed, item_rest}
 use Rattle.grammar.proofs.heads.item_at.Goals as goal

@@ -1,5 +1,5 @@
 -- `name_head` reads a name and looks at its word. Assumes nothing.
-use Rattle.std.proofs.Common.{refl, ap, ◌∙◌, ℕ, rules}
+use Rattle.std.proofs.Common.{refl, ap, ◌∙◌, ℕ}
 use Rattle.grammar.specs.Heads.{name_head, word_head}
 use Rattle.grammar.proofs.Atomic.{name_ends}
 use Rattle.grammar.proofs.Heading.{told}

@@ -1,5 +1,4 @@
 -- `class_name` reads a name and packs its span. Assumes nothing.
-use Rattle.std.proofs.Common.{rules}
 use Rattle.grammar.proofs.Leafing.{name_fits, class_fails, class_named}
 use Rattle.grammar.proofs.leaves.class_name.Goals as goal
 

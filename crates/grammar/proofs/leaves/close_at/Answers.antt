@@ -1,5 +1,4 @@
 -- `close_at` compares one byte. Assumes nothing.
-use Rattle.std.proofs.Common.{rules}
 use Rattle.grammar.proofs.Leafing.{close_ended, close_missing, close_found}
 use Rattle.grammar.proofs.leaves.close_at.Goals as goal
 

@@ -1,5 +1,4 @@
 -- `follow_at` compares one byte. Assumes nothing.
-use Rattle.std.proofs.Common.{rules}
 use Rattle.grammar.proofs.Leafing.{follow_found, follow_comma, follow_none}
 use Rattle.grammar.proofs.leaves.follow_at.Goals as goal
 

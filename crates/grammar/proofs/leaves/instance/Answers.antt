@@ -1,5 +1,4 @@
 -- `instance` tests the keyword, looks at what follows, and reads the name of a class. Assumes nothing.
-use Rattle.std.proofs.Common.{rules}
 use borrow.Author.Tests.{not-true, not-false}
 use Rattle.grammar.proofs.Leafing.{passed, instance_none, instance_stands, instance_goes_on, instance_halts, instance_class}
 use Rattle.grammar.proofs.leaves.instance.Goals as goal

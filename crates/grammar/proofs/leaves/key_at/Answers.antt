@@ -1,5 +1,5 @@
 -- `key_at` goes by the first byte. Assumes nothing.
-use Rattle.std.proofs.Common.{ap, rules}
+use Rattle.std.proofs.Common.{ap}
 use Rattle.grammar.proofs.Leafing.{key_string, key_name}
 use Rattle.literals.specs.Strings.{is_quote}
 use Rattle.grammar.proofs.leaves.key_at.Goals as goal

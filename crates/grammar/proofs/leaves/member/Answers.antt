@@ -1,5 +1,4 @@
 -- `member` steps over the dot, reads a name and packs its span. Assumes nothing.
-use Rattle.std.proofs.Common.{rules}
 use Rattle.grammar.proofs.Leafing.{name_fits, member_stands, member_fails, member_named}
 use Rattle.grammar.proofs.leaves.member.Goals as goal
 

@@ -1,5 +1,5 @@
 -- `postfix_at` goes by one byte, and by a second where the first could double. Assumes nothing.
-use Rattle.std.proofs.Common.{arith, rules}
+use Rattle.std.proofs.Common.{arith}
 use Rattle.grammar.proofs.Leafing.{postfix_by_lem, postfix_call, postfix_index, postfix_none, postfix_double, postfix_single}
 use Rattle.literals.specs.StringLaws.{byte_in}
 use Rattle.grammar.proofs.leaves.postfix_at.Goals as goal

@@ -1,5 +1,4 @@
 -- `prefix_at` goes by one byte, and by a second where the first could double. Assumes nothing.
-use Rattle.std.proofs.Common.{rules}
 use Rattle.grammar.proofs.Leafing.{prefix_not, prefix_none, prefix_double, prefix_single}
 use Rattle.grammar.proofs.leaves.prefix_at.Goals as goal
 

@@ -1,5 +1,5 @@
 -- `prefix_of` skips the blanks, which mostly are spaces. Assumes nothing.
-use Rattle.std.proofs.Common.{refl, arith, rules}
+use Rattle.std.proofs.Common.{refl, arith}
 use borrow.Author.Tests.{not-true}
 use Rattle.characters.specs.PlaceLaws.{room}
 use Rattle.characters.specs.BlankLaws.{only_spaces, spaced_stands}

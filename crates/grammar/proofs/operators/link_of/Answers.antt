@@ -1,5 +1,5 @@
 -- `link_of` tells a link by its first bytes. Assumes nothing.
-use Rattle.std.proofs.Common.{ap, ◌∙◌, rules}
+use Rattle.std.proofs.Common.{ap, ◌∙◌}
 use Rattle.grammar.proofs.Links.{linked, operated, operator_fits}
 use Rattle.grammar.specs.declared.leaves.Link.TheVariants.{Choice}
 use Rattle.grammar.proofs.operators.link_of.Goals as goal

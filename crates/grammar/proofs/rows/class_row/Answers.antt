@@ -1,5 +1,5 @@
 -- `class_row` lays the number of a class's id, and the other fields as they are given. Assumes nothing.
-use Rattle.std.proofs.Common.{ap, ℕ, rules}
+use Rattle.std.proofs.Common.{ap, ℕ}
 use Rattle.grammar.specs.Classes.{class_row}
 use Rattle.grammar.proofs.rows.class_row.Goals as goal
 

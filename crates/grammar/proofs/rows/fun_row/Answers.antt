@@ -1,5 +1,5 @@
 -- `fun_row` lays the number of a function's id, and the other fields as they are given. Assumes nothing.
-use Rattle.std.proofs.Common.{ap, ℕ, rules}
+use Rattle.std.proofs.Common.{ap, ℕ}
 use Rattle.grammar.specs.Functions.{fun_row}
 use Rattle.grammar.proofs.rows.fun_row.Goals as goal
 

@@ -1,5 +1,4 @@
 -- `leaf_row` lays a leaf's value into two words. Assumes nothing.
-use Rattle.std.proofs.Common.{rules}
 use Rattle.grammar.proofs.rows.leaf_row.Goals as goal
 
 pub returns : goal.returns

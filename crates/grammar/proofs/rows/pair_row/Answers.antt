@@ -1,5 +1,5 @@
 -- `pair_row` packs the key. Assumes nothing.
-use Rattle.std.proofs.Common.{ap, ◌∙◌, ℕ, rules}
+use Rattle.std.proofs.Common.{ap, ◌∙◌, ℕ}
 use Rattle.reading.specs.Entry.{nowhere}
 use Rattle.grammar.specs.Leaves.{row_of}
 use Rattle.records.specs.declared.kind.Kind.TheVariants as kinds

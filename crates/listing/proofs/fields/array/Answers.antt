@@ -1,5 +1,5 @@
 -- `array` prints the bytes of a bytearray. Assumes nothing.
-use Rattle.std.proofs.Common.{ap, ◌<◌, length, rules}
+use Rattle.std.proofs.Common.{ap, ◌<◌, length}
 use mathlib.Core.Path.{subst⁻¹}
 use Rattle.listing.specs.Laws.Texts.{spanned_length}
 use Rattle.listing.specs.Laws.Sheets.{said}

@@ -1,5 +1,4 @@
 -- `field` prints by the form that it is given. Assumes nothing.
-use Rattle.std.proofs.Common.{rules}
 use Rattle.listing.specs.Laws.Words.{split}
 use Rattle.listing.specs.Laws.Fields.{in_form}
 use Rattle.listing.specs.Listing.{field}

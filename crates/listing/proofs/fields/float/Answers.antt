@@ -1,5 +1,5 @@
 -- `float` prints a space, the minus if there is one, and the literal. Assumes nothing.
-use Rattle.std.proofs.Common.{ap, ◌∷◌, ◌++◌, rules}
+use Rattle.std.proofs.Common.{ap, ◌∷◌, ◌++◌}
 use Rattle.listing.specs.Laws.Sheets.{said, then}
 use Rattle.listing.specs.Listing.{minus}
 use Rattle.characters.specs.Text.{Text}

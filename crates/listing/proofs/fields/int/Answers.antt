@@ -1,5 +1,5 @@
 -- `int` prints a space and an int64. Assumes nothing.
-use Rattle.std.proofs.Common.{ap, ◌∷◌, ℕ, rules}
+use Rattle.std.proofs.Common.{ap, ◌∷◌, ℕ}
 use Rattle.listing.specs.Laws.Sheets.{said, then}
 use Rattle.listing.specs.Listing.{signed}
 use Rattle.listing.proofs.fields.int.Goals as goal

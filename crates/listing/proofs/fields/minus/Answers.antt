@@ -1,5 +1,4 @@
 -- `minus` prints a minus where the mark is set. Assumes nothing.
-use Rattle.std.proofs.Common.{rules}
 use Rattle.listing.specs.Laws.Texts.{minus_set, minus_unset}
 use Rattle.listing.specs.Laws.Sheets.{said, none}
 use Rattle.listing.proofs.fields.minus.Goals as goal

@@ -1,5 +1,5 @@
 -- `named` prints a space and a name, or `-`. Assumes nothing.
-use Rattle.std.proofs.Common.{ap, ◌∙◌, ◌∷◌, rules}
+use Rattle.std.proofs.Common.{ap, ◌∙◌, ◌∷◌}
 use Rattle.listing.specs.Laws.Texts.{name_none, name_some}
 use Rattle.listing.specs.Laws.Sheets.{said, then}
 use Rattle.characters.specs.Text.{Text}

@@ -1,5 +1,4 @@
 -- `plain` prints a space and a number. Assumes nothing.
-use Rattle.std.proofs.Common.{rules}
 use Rattle.listing.specs.Laws.Sheets.{then}
 use Rattle.listing.proofs.fields.plain.Goals as goal
 

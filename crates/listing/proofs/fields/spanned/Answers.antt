@@ -1,5 +1,5 @@
 -- `spanned` lends the part that a word says. Assumes nothing.
-use Rattle.std.proofs.Common.{ap, ◌∙◌, rules}
+use Rattle.std.proofs.Common.{ap, ◌∙◌}
 use Rattle.characters.specs.declared.place.Span.{Span}
 use Rattle.characters.specs.Names.{part}
 use Rattle.listing.proofs.fields.spanned.Goals as goal

@@ -1,5 +1,5 @@
 -- `word` prints a space and the word that begins past so many others. Assumes nothing.
-use Rattle.std.proofs.Common.{ap, ◌∙◌, ◌∷◌, rules}
+use Rattle.std.proofs.Common.{ap, ◌∙◌, ◌∷◌}
 use Rattle.listing.specs.Laws.Words.{up_to_space, word_at}
 use Rattle.listing.specs.Laws.Sheets.{said, then}
 use Rattle.characters.specs.Text.{Text}

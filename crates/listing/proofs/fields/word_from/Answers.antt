@@ -1,8 +1,6 @@
 -- `word_from` puts byte after byte, up to a space. What is left of the word leads to the whole. Assumes nothing.
-use Rattle.std.proofs.Common.{◌-◌, length, drop, rules}
-use Rattle.listing.specs.Laws.Words.{up_to_space, upto_space, upto_other, upto_end}
-use Rattle.listing.specs.Laws.Sheets.{Going, going_start, going_on, going_end}
-use Rattle.listing.specs.Sheets.{sheet}
+use Rattle.listing.specs.Laws.Words.{upto_space, upto_other, upto_end}
+use Rattle.listing.specs.Laws.Sheets.{going_start, going_on, going_end}
 use Rattle.listing.proofs.fields.word_from.Goals as goal
 
 pub loop-i-init : goal.loop-i-init

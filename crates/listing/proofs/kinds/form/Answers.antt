@@ -1,5 +1,5 @@
 -- `form` tells the form by its letter. Assumes nothing.
-use Rattle.std.proofs.Common.{sym, ap, ◌∙◌, rules}
+use Rattle.std.proofs.Common.{sym, ap, ◌∙◌}
 use Rattle.listing.specs.Laws.Kinds.{form_of, form_read, form_none}
 use Rattle.listing.proofs.kinds.form.Goals as goal
 

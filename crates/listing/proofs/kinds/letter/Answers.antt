@@ -1,5 +1,5 @@
 -- `letter` reads the table at the kind's row. Assumes nothing.
-use Rattle.std.proofs.Common.{ap, ◌∙◌, ℕ, ◌+◌, ◌*◌, arith, get_or, rules}
+use Rattle.std.proofs.Common.{ap, ◌∙◌, ℕ, ◌+◌, ◌*◌, arith, get_or}
 use Rattle.listing.specs.Laws.Kinds.{rows, letter_at, number_bound}
 use Rattle.records.specs.Kinds.{kinds}
 use Rattle.characters.specs.Names.{same}

@@ -1,5 +1,4 @@
 -- `position` prints where the letter says so. Assumes nothing.
-use Rattle.std.proofs.Common.{rules}
 use Rattle.listing.specs.Laws.Kinds.{position_some, position_none}
 use Rattle.listing.specs.Laws.Sheets.{said, then, none}
 use Rattle.listing.proofs.kinds.position.Goals as goal

@@ -1,5 +1,5 @@
 -- `title` prints the word with the kind's number. Assumes nothing.
-use Rattle.std.proofs.Common.{ap, ◌∙◌, [], ◌∷◌, ℕ, get_or, rules}
+use Rattle.std.proofs.Common.{ap, ◌∙◌, [], ◌∷◌, ℕ, get_or}
 use Rattle.listing.specs.Laws.Words.{split}
 use Rattle.listing.specs.Laws.Kinds.{names, name_at}
 use Rattle.listing.specs.Laws.Sheets.{said}

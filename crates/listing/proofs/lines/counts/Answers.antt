@@ -1,5 +1,4 @@
 -- `counts` prints both counts and the line end. Assumes nothing.
-use Rattle.std.proofs.Common.{rules}
 use Rattle.listing.specs.Laws.Sheets.{then}
 use Rattle.listing.proofs.lines.counts.Goals as goal
 

@@ -1,5 +1,5 @@
 -- `fields` prints each field by its form. Assumes nothing.
-use Rattle.std.proofs.Common.{sym, rules}
+use Rattle.std.proofs.Common.{sym}
 use Rattle.listing.specs.Laws.Fields.{in_form}
 use Rattle.listing.specs.Laws.Sheets.{then}
 use Rattle.listing.proofs.lines.fields.Goals as goal

@@ -1,5 +1,4 @@
 -- `last` prints the last line, by the answer's number. Assumes nothing.
-use Rattle.std.proofs.Common.{rules}
 use Rattle.listing.specs.Laws.Lines.{last_ok, last_refused}
 use Rattle.listing.specs.Laws.Sheets.{said, then}
 use Rattle.listing.proofs.lines.last.Goals as goal

@@ -1,5 +1,4 @@
 -- `line` prints the row that the pool has. Assumes nothing.
-use Rattle.std.proofs.Common.{rules}
 use Rattle.listing.specs.Laws.Lines.{line_here, line_lacking}
 use Rattle.listing.specs.Laws.Sheets.{said, then}
 use Rattle.listing.proofs.lines.line.Goals as goal

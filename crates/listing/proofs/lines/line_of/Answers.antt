@@ -1,5 +1,4 @@
 -- `line_of` prints number, kind, position and fields, one after the other. Assumes nothing.
-use Rattle.std.proofs.Common.{rules}
 use Rattle.listing.specs.Laws.Sheets.{then}
 use Rattle.listing.specs.Listing.{line_of}
 use Rattle.listing.proofs.lines.line_of.Goals as goal

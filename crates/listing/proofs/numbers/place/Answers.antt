@@ -1,5 +1,4 @@
 -- `place` prints a line, a colon and a column. Assumes nothing.
-use Rattle.std.proofs.Common.{rules}
 use Rattle.listing.specs.Laws.Sheets.{then}
 use Rattle.listing.proofs.numbers.place.Goals as goal
 

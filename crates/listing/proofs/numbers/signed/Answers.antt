@@ -1,5 +1,4 @@
 -- `signed` prints a minus before what is negative. Assumes nothing.
-use Rattle.std.proofs.Common.{rules}
 use Rattle.listing.specs.Laws.Numbers.{signed_up, signed_down}
 use Rattle.listing.specs.Laws.Sheets.{said, then}
 use Rattle.listing.proofs.numbers.signed.Goals as goal

@@ -1,7 +1,7 @@
 -- `copy` puts byte after byte. What is left to copy leads to the whole. Assumes nothing.
-use Rattle.std.proofs.Common.{◌-◌, length, drop, rules}
+use Rattle.std.proofs.Common.{◌-◌, length, drop}
 use Rattle.listing.specs.Sheets.{sheet}
-use Rattle.listing.specs.Laws.Sheets.{Going, going_start, going_on, going_end, from_byte, from_none}
+use Rattle.listing.specs.Laws.Sheets.{Going}
 use Rattle.listing.proofs.sheet.copy.Given as goal
 
 abbrev pub invariant-loop-i : goal.invariant-loop-i

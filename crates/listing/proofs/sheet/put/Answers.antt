@@ -1,5 +1,4 @@
 -- `put` is one byte more. Assumes nothing.
-use Rattle.std.proofs.Common.{rules}
 use Rattle.listing.specs.Laws.Sheets.{put_room, put_full}
 use Rattle.listing.proofs.sheet.put.Goals as goal
 

@@ -1,5 +1,5 @@
 -- `bytes` prints the bytes of a bytearray that is taken. Assumes nothing.
-use Rattle.std.proofs.Common.{sym, ◌∙◌, arith, rules}
+use Rattle.std.proofs.Common.{sym, ◌∙◌, arith}
 use Rattle.listing.specs.Laws.Texts.{bytes_short, bytes_refused, bytes_taken, taken_shut}
 use Rattle.listing.specs.Laws.Sheets.{said, none}
 use Rattle.listing.proofs.texts.bytes.Goals as goal

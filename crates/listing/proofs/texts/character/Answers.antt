@@ -1,5 +1,4 @@
 -- `character` prints the bytes that RFC 3629 gives a character. Assumes nothing.
-use Rattle.std.proofs.Common.{rules}
 use Rattle.listing.specs.Laws.Texts.{utf8_one, utf8_two, utf8_three, utf8_four}
 use Rattle.listing.specs.Laws.Sheets.{said}
 use Rattle.listing.proofs.texts.character.Goals as goal

@@ -1,5 +1,4 @@
 -- `hex` is a digit up to 9, and a capital from 10 on. Assumes nothing.
-use Rattle.std.proofs.Common.{rules}
 use Rattle.listing.specs.Laws.Texts.{hex_low, hex_high}
 use Rattle.listing.proofs.texts.hex.Goals as goal
 

@@ -1,7 +1,6 @@
 -- `pair` prints a space and two digits. Assumes nothing.
-use Rattle.std.proofs.Common.{ap, ◌∙◌, [], ◌∷◌, ℕ, rules}
+use Rattle.std.proofs.Common.{[], ◌∷◌}
 use Rattle.listing.specs.Laws.Sheets.{said}
-use Rattle.characters.specs.Text.{Text}
 use Rattle.listing.proofs.texts.pair.Goals as goal
 
 pub returns : goal.returns

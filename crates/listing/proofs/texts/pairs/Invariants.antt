@@ -1,6 +1,6 @@
 -- `pairs` prints byte after byte. What is left of the bytearray leads to the whole; each step leaves less of it. Assumes nothing.
-use Rattle.std.proofs.Common.{◌-◌, arith, length, rules}
-use Rattle.listing.specs.Laws.Texts.{Printing, pairs_from, printing_start, printing_byte, printing_opened, printing_shut, printing_refused, byte_further, opened_further}
+use Rattle.std.proofs.Common.{◌-◌, length}
+use Rattle.listing.specs.Laws.Texts.{Printing, pairs_from}
 use Rattle.listing.specs.Sheets.{sheet}
 use Rattle.listing.proofs.texts.pairs.Given as goal
 

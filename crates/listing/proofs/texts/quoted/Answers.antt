@@ -1,5 +1,5 @@
 -- `quoted` prints a quote, the characters and a quote. Assumes nothing.
-use Rattle.std.proofs.Common.{◌<◌, refl, arith, length, rules}
+use Rattle.std.proofs.Common.{◌<◌, refl, arith, length}
 use mathlib.Core.Path.{subst⁻¹}
 use Rattle.listing.specs.Laws.Texts.{between_quotes}
 use Rattle.listing.specs.Laws.Sheets.{said, then}

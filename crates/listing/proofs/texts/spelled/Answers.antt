@@ -1,10 +1,8 @@
 -- `spelled` prints character after character. What is left to spell leads to the whole; each turn leaves less of it. Assumes nothing.
-use Rattle.std.proofs.Common.{sym, ◌∙◌, ◌-◌, ◌≤◌, arith, length, rules}
+use Rattle.std.proofs.Common.{sym, ◌∙◌, arith}
 use Rattle.listing.specs.Laws.Texts.{spelled_on, spelled_end}
-use Rattle.listing.specs.Laws.Sheets.{Going, going_start, going_on, going_end}
-use Rattle.listing.specs.Listing.{characters}
-use Rattle.listing.specs.Sheets.{sheet}
-use Rattle.literals.specs.SpellingLaws.{decoded_from, piece_inside}
+use Rattle.listing.specs.Laws.Sheets.{going_start, going_on, going_end}
+use Rattle.literals.specs.SpellingLaws.{piece_inside}
 use Rattle.listing.proofs.texts.spelled.Goals as goal
 
 pub loop-value-init : goal.loop-value-init

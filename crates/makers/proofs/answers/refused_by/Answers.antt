@@ -1,5 +1,5 @@
 -- `refused_by` tells what the token said. Assumes nothing.
-use Rattle.std.proofs.Common.{sym, ap, rules}
+use Rattle.std.proofs.Common.{sym, ap}
 use Rattle.characters.specs.declared.tokens.Must.{Must}
 use Rattle.makers.specs.Duties.{refused_by}
 use Rattle.makers.proofs.answers.refused_by.Goals as goal

@@ -1,7 +1,6 @@
 -- `reduce` goes with the rule, one binary at a time. Assumes nothing.
-use Rattle.std.proofs.Common.{◌∙◌, rules}
 use Rattle.records.proofs.Laws.Rows.{lent_kept}
-use Rattle.makers.proofs.Reducing.{Reducing, reducing_starts, newest_some, newest_made, reducing_on, reduced_full, reduced_empty, reduced_top}
+use Rattle.makers.proofs.Reducing.{reducing_starts, newest_some, newest_made, reducing_on, reduced_full, reduced_empty, reduced_top}
 use Rattle.makers.proofs.chains.reduce.Goals as goal
 
 pub loop-len-init : goal.loop-len-init

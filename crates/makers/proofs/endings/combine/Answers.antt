@@ -1,5 +1,5 @@
 -- `combine` makes a binary and the assignment of it. Assumes nothing.
-use Rattle.std.proofs.Common.{refl, rules}
+use Rattle.std.proofs.Common.{refl}
 use Rattle.grammar.specs.Statements.{combine_p}
 use Rattle.makers.specs.Laws.Acts.{acts_make, acts_then, acts_stop}
 use Rattle.makers.proofs.endings.combine.Goals as goal

@@ -1,5 +1,4 @@
 -- `held` makes an item. Assumes nothing.
-use Rattle.std.proofs.Common.{rules}
 use Rattle.makers.specs.Laws.Acts.{acts_make}
 use Rattle.makers.proofs.endings.held.Goals as goal
 

@@ -1,5 +1,4 @@
 -- `increment` by its rule: its target, the end token, 1, and what `combine` makes. Assumes nothing.
-use Rattle.std.proofs.Common.{rules}
 use Rattle.makers.proofs.Ending.{no_target, no_end, one_full, one_room, incremented}
 use Rattle.makers.proofs.endings.increment.Goals as goal
 

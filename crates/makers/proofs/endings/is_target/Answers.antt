@@ -1,5 +1,5 @@
 -- `is_target` knows the three kinds. Assumes nothing.
-use Rattle.std.proofs.Common.{refl, sym, ap, ℕ, ne_eqb, rules}
+use Rattle.std.proofs.Common.{refl, sym, ap, ℕ, ne_eqb}
 use Rattle.makers.specs.Duties.{target_kind}
 use Rattle.makers.proofs.endings.is_target.Goals as goal
 

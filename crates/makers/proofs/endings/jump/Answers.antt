@@ -1,5 +1,4 @@
 -- `jump` takes the `;` and makes one record. Assumes nothing.
-use Rattle.std.proofs.Common.{rules}
 use Rattle.makers.proofs.Ending.{jump_fails, jump_made}
 use Rattle.makers.proofs.endings.jump.Goals as goal
 

@@ -1,5 +1,5 @@
 -- `make_for` makes `true` first, where the test is left out. Assumes nothing.
-use Rattle.std.proofs.Common.{refl, eq-eqb, ne_eqb, rules}
+use Rattle.std.proofs.Common.{refl, eq-eqb, ne_eqb}
 use Rattle.grammar.specs.Statements.{for_end_p}
 use Rattle.makers.specs.Laws.Acts.{acts_make, acts_yes, acts_no, acts_then, acts_stop}
 use Rattle.makers.proofs.endings.make_for.Goals as goal

@@ -1,5 +1,4 @@
 -- `make_fun` by its rule: an id, then a record. Assumes nothing.
-use Rattle.std.proofs.Common.{rules}
 use Rattle.makers.proofs.Ending.{fun_made}
 use Rattle.makers.proofs.endings.make_fun.Goals as goal
 

@@ -1,5 +1,4 @@
 -- `stated` makes an item. Assumes nothing.
-use Rattle.std.proofs.Common.{rules}
 use Rattle.makers.specs.Laws.Acts.{acts_make}
 use Rattle.makers.proofs.endings.stated.Goals as goal
 

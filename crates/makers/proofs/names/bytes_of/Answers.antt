@@ -1,5 +1,5 @@
 -- `bytes_of` leaves out the quotes of a key. Assumes nothing.
-use Rattle.std.proofs.Common.{true, false, rules}
+use Rattle.std.proofs.Common.{true, false}
 use Rattle.makers.specs.Laws.NamesWalk.{bytes_by_lem}
 use Rattle.makers.proofs.names.bytes_of.Goals as goal
 

@@ -1,5 +1,4 @@
 -- `class_of` takes the name of the class that a declaration refers to. Assumes nothing.
-use Rattle.std.proofs.Common.{arith, rules}
 use Rattle.makers.specs.Laws.NamesWalk.{class_other, class_late, class_none, class_named}
 use Rattle.makers.proofs.names.class_of.Goals as goal
 

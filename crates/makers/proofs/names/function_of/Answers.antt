@@ -1,5 +1,5 @@
 -- `function_of` takes the name of a `let` that declares a function. Assumes nothing.
-use Rattle.std.proofs.Common.{arith, rules}
+use Rattle.std.proofs.Common.{arith}
 use Rattle.makers.specs.Laws.NamesWalk.{function_other, function_not, function_named}
 use Rattle.makers.proofs.names.function_of.Goals as goal
 

@@ -1,5 +1,5 @@
 -- `is_closure` looks at the kind of an earlier record. Assumes nothing.
-use Rattle.std.proofs.Common.{sym, ap, ◌∙◌, ℕ, eqb, rules}
+use Rattle.std.proofs.Common.{sym, ap, ◌∙◌, ℕ, eqb}
 use Rattle.records.proofs.Laws.Nodes.{closure_earlier}
 use Rattle.makers.specs.Laws.NamesWalk.{closure_late, closure_none}
 use Rattle.makers.proofs.names.is_closure.Goals as goal

@@ -1,5 +1,5 @@
 -- `is_long` tells a byte that alone is no character. Assumes nothing.
-use Rattle.std.proofs.Common.{arith, rules}
+use Rattle.std.proofs.Common.{arith}
 use Rattle.makers.specs.Laws.NamesWalk.{long_escape, long_high, long_low, long_end}
 use Rattle.makers.proofs.names.is_long.Goals as goal
 

@@ -1,5 +1,5 @@
 -- `name_at` looks where the names of a list stand. Assumes nothing.
-use Rattle.std.proofs.Common.{ap, ◌∙◌, arith, [], ◌∷◌, ℕ, rules}
+use Rattle.std.proofs.Common.{ap, ◌∙◌, arith, [], ◌∷◌, ℕ}
 use Rattle.records.specs.Words.{span_of}
 use Rattle.records.specs.Nodes.{held_at}
 use Rattle.makers.specs.declared.names.Naming.TheVariants.{Keys, Parameters, Methods, Functions, Classes}

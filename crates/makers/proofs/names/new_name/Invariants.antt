@@ -1,7 +1,5 @@
 -- `new_name`: each turn passes an item, or counts and compares its name. The item falls, for each refers to an earlier one. Assumes nothing.
-use Rattle.std.proofs.Common.{◌∙◌, arith, rules}
-use Rattle.makers.specs.Laws.Names.{walked}
-use Rattle.makers.specs.Laws.NamesWalk.{Walks, walk_starts, bytes_as, bytes_short, walk_end, walk_less, walk_pass, walk_over, walk_same, walk_on}
+use Rattle.makers.specs.Laws.NamesWalk.{Walks}
 use Rattle.makers.proofs.names.new_name.Given as goal
 
 abbrev pub invariant-loop-item : goal.invariant-loop-item

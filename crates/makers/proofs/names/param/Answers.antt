@@ -1,5 +1,5 @@
 -- `param` by its rule: no name, one that stands there already, or a new one and its item. Assumes nothing.
-use Rattle.std.proofs.Common.{ap, ◌∙◌, ℕ, arith, rules}
+use Rattle.std.proofs.Common.{ap, ◌∙◌, ℕ, arith}
 use Rattle.reading.specs.Entry.{nowhere}
 use Rattle.grammar.specs.Leaves.{row_of}
 use Rattle.makers.specs.Laws.NamesRead.{free_taken, taken_packs, param_fails, param_clashes, param_made}

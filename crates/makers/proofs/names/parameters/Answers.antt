@@ -1,5 +1,4 @@
 -- `parameters` counts what `params` read. Assumes nothing.
-use Rattle.std.proofs.Common.{rules}
 use Rattle.makers.specs.Laws.NamesRead.{params_refused, params_over, params_read}
 use Rattle.makers.proofs.names.parameters.Goals as goal
 

@@ -1,8 +1,8 @@
 -- `params`: each turn reads one parameter, and what is left of the text falls. Assumes nothing.
-use Rattle.std.proofs.Common.{refl, ◌∙◌, [], ◌-◌, arith, length, rules}
+use Rattle.std.proofs.Common.{refl, ◌∙◌, [], arith}
 use Rattle.makers.specs.Laws.Turns.{turn_first, turn_less}
 use Rattle.makers.specs.Laws.Names.{listed_none, listed_well}
-use Rattle.makers.specs.Laws.NamesRead.{Gathering, gather_halts, gather_ends, gather_here, gather_refused, gather_next, follow_halts, follow_ends, gather_further, gather_on}
+use Rattle.makers.specs.Laws.NamesRead.{gather_halts, gather_ends, gather_here, gather_refused, gather_next, follow_halts, follow_ends, gather_further, gather_on}
 use Rattle.makers.proofs.names.params.Goals as goal
 
 pub loop-refusal-init : goal.loop-refusal-init

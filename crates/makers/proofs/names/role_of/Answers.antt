@@ -1,5 +1,4 @@
 -- `role_of` looks at the value of a `let`, then at its mark. Assumes nothing.
-use Rattle.std.proofs.Common.{rules}
 use Rattle.makers.specs.Laws.NamesWalk.{role_function, role_marked}
 use Rattle.makers.proofs.names.role_of.Goals as goal
 

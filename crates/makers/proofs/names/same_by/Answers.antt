@@ -1,5 +1,5 @@
 -- `same_by` compares bytes, or what they spell. Assumes nothing.
-use Rattle.std.proofs.Common.{true, false, rules}
+use Rattle.std.proofs.Common.{true, false}
 use Rattle.makers.specs.Laws.NamesWalk.{alike_by_lem}
 use Rattle.makers.proofs.names.same_by.Goals as goal
 

@@ -1,6 +1,5 @@
 -- `same_bytes` compares byte by byte. Assumes nothing.
-use Rattle.std.proofs.Common.{◌-◌, length, arith, rules}
-use Rattle.makers.specs.Laws.NamesWalk.{Matching, match_starts, match_none, match_inside, match_on, match_off, match_all}
+use Rattle.makers.specs.Laws.NamesWalk.{match_starts, match_none, match_inside, match_on, match_off, match_all}
 use Rattle.makers.proofs.names.same_bytes.Goals as goal
 
 pub returns-then-b-n : goal.returns-then-b-n

@@ -1,6 +1,6 @@
 -- `same_bytes` compares byte by byte. Assumes nothing.
-use Rattle.std.proofs.Common.{◌-◌, length, arith, rules}
-use Rattle.makers.specs.Laws.NamesWalk.{Matching, match_starts, match_none, match_inside, match_on, match_off, match_all}
+use Rattle.std.proofs.Common.{◌-◌, length}
+use Rattle.makers.specs.Laws.NamesWalk.{Matching}
 use Rattle.makers.proofs.names.same_bytes.Given as goal
 
 abbrev pub invariant-loop-i : goal.invariant-loop-i

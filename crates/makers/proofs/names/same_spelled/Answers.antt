@@ -1,7 +1,7 @@
 -- `same_spelled` compares byte by byte while bytes are characters. What is left of both texts compares as they do. Assumes nothing.
-use Rattle.std.proofs.Common.{sym, ◌∙◌, ◌-◌, arith, length, rules}
+use Rattle.std.proofs.Common.{sym, ◌∙◌, arith, rules}
 use Rattle.literals.specs.StringLaws.{byte_in, not_ended}
-use Rattle.literals.specs.SpellingLaws.{Comparing, compare_start}
+use Rattle.literals.specs.SpellingLaws.{compare_start}
 use Rattle.makers.specs.Laws.NamesWalk.{spell_ends, spell_off, spell_on}
 use Rattle.makers.proofs.names.same_spelled.Goals as goal
 

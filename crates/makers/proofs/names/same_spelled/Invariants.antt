@@ -1,8 +1,6 @@
 -- `same_spelled` compares byte by byte while bytes are characters. What is left of both texts compares as they do. Assumes nothing.
-use Rattle.std.proofs.Common.{sym, ◌∙◌, ◌-◌, arith, length, rules}
-use Rattle.literals.specs.StringLaws.{byte_in, not_ended}
-use Rattle.literals.specs.SpellingLaws.{Comparing, compare_start}
-use Rattle.makers.specs.Laws.NamesWalk.{spell_ends, spell_off, spell_on}
+use Rattle.std.proofs.Common.{◌-◌, length}
+use Rattle.literals.specs.SpellingLaws.{Comparing}
 use Rattle.makers.proofs.names.same_spelled.Given as goal
 
 abbrev pub invariant-loop-i : goal.invariant-loop-i

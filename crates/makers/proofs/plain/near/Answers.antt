@@ -1,5 +1,4 @@
 -- `near` looks at one byte. Assumes nothing.
-use Rattle.std.proofs.Common.{rules}
 use Rattle.makers.specs.Laws.PlainEnds.{near_space, near_here}
 use Rattle.makers.proofs.plain.near.Goals as goal
 

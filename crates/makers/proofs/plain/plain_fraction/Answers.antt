@@ -1,5 +1,5 @@
 -- `plain_fraction` goes along a plain fraction to its end. Assumes nothing.
-use Rattle.std.proofs.Common.{refl, arith, rules}
+use Rattle.std.proofs.Common.{refl, arith}
 use Rattle.makers.specs.Laws.PlainMade.{plain_none, float_spans, spans_short, float_made}
 use Rattle.makers.proofs.plain.plain_fraction.Goals as goal
 

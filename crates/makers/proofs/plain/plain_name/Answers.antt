@@ -1,5 +1,5 @@
 -- `plain_name` reads a name and goes by its word. Assumes nothing.
-use Rattle.std.proofs.Common.{refl, arith, rules}
+use Rattle.std.proofs.Common.{refl, arith}
 use Rattle.makers.specs.Laws.PlainMade.{plain_none, name_ends, spans_short, name_made, word_made}
 use Rattle.records.specs.declared.kind.Kind.TheVariants as kinds
 use Rattle.makers.proofs.plain.plain_name.Goals as goal

@@ -1,5 +1,5 @@
 -- `plain_number` looks at the digits once: they are a plain integer, or begin a plain fraction. Assumes nothing.
-use Rattle.std.proofs.Common.{refl, arith, rules}
+use Rattle.std.proofs.Common.{refl, arith}
 use Rattle.literals.specs.PlainLaws.{is_int_lem, int_few}
 use Rattle.makers.specs.Laws.PlainMade.{number_ends, number_made}
 use Rattle.makers.proofs.plain.plain_number.Goals as goal

@@ -1,5 +1,5 @@
 -- `plain_string` goes along a plain string to its end. Assumes nothing.
-use Rattle.std.proofs.Common.{refl, arith, rules}
+use Rattle.std.proofs.Common.{refl, arith}
 use Rattle.makers.specs.Laws.PlainMade.{plain_none, string_ends, spans_short, string_made}
 use Rattle.makers.proofs.plain.plain_string.Goals as goal
 

@@ -1,5 +1,5 @@
 -- `minus` makes a number literal again with its sign turned. Assumes nothing.
-use Rattle.std.proofs.Common.{refl, ap, ◌∙◌, ℕ, rules}
+use Rattle.std.proofs.Common.{refl, ap, ◌∙◌, ℕ}
 use Rattle.grammar.specs.Expressions.{minus_p, minus_int, minus_float}
 use Rattle.makers.specs.Laws.Acts.{acts_make, acts_yes, acts_no}
 use Rattle.makers.proofs.Ending.{kind_is, kind_not, other_kind, literal_value, leaf_made}

@@ -1,5 +1,5 @@
 -- `plus` leaves a number literal as it is. Assumes nothing.
-use Rattle.std.proofs.Common.{refl, sym, ap, ◌∙◌, ◌||◌, ℕ, eqb, rules}
+use Rattle.std.proofs.Common.{refl, sym, ap, ◌∙◌, ◌||◌, ℕ, eqb}
 use Rattle.grammar.specs.Expressions.{plus_p}
 use Rattle.makers.specs.Laws.Acts.{acts_yes, acts_no, acts_stays, acts_refuses}
 use Rattle.makers.proofs.Ending.{kind_not}

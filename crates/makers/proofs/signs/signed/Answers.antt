@@ -1,5 +1,5 @@
 -- `signed` acts by its sign. Assumes nothing.
-use Rattle.std.proofs.Common.{eq-eqb, ne_eqb, rules}
+use Rattle.std.proofs.Common.{eq-eqb, ne_eqb}
 use Rattle.grammar.specs.Expressions.{sign_p}
 use Rattle.makers.specs.Laws.Acts.{acts_make, acts_yes, acts_no}
 use Rattle.makers.proofs.signs.signed.Goals as goal

@@ -18,6 +18,9 @@ CUT = r"[^\s(){}.;,@\"«»`\\]"
 DECLARED = re.compile(r"(?m)^ *(?:(?:pub|abbrev|unfoldable|open) )*([^\s:(){}]+)(?: \{[^{}\n]*\}| \([^()\n]*\))* :(?= |$)")
 # Lemmas that would fall together, in one file, with the definition that they speak of.
 IN_ONE_FILE = {
+    "crates/characters/specs/BlankLaws.antt": "line_on",
+    "crates/records/specs/Laws/Nodes.antt": "row_at",
+    "crates/readers/specs/Laws/Operands.antt": "row_at",
     "crates/literals/specs/ByteArrayStable.antt": "ascii_by",
     "crates/characters/proofs/Utf8Steps.antt": "opened_in",
     "crates/grammar/proofs/Heading.antt": "step_by",

@@ -61,9 +61,10 @@ def unquoted(text):
 
 
 def examples():
-    """What the proved examples say, as they are written."""
+    """What the proved examples say, as they are written. They stand in specs/ or in proofs/."""
     for name in ("UnitExamples", "LimitExamples"):
-        with open(os.path.join(compare.ROOT, "crates", "unit", "specs", name + ".antt"), encoding="utf-8") as file:
+        paths = [os.path.join(compare.ROOT, "crates", "unit", part, name + ".antt") for part in ("specs", "proofs")]
+        with open(next(filter(os.path.exists, paths)), encoding="utf-8") as file:
             yield file.read()
 
 

@@ -314,10 +314,10 @@ blanks_on s p h = pass_from_on s p between p h
 -- ---- lines
 
 module _ (s : Text) where
-  line_on : (l : Text) (p : Place) → Stands s p → l ≡ drop p.offset s → Reached s p (line_end l p)
+  line_on_lem : (l : Text) (p : Place) → Stands s p → l ≡ drop p.offset s → Reached s p (line_end l p)
   unfolding line_end
-  line_on [] p h e = reached_here h
-  line_on (b ∷ l) p h e = go (eqb b 10) (reached_on (advanced_reached a) (line_on l (past b p) a.stands ((rest s p.offset b l e).1 ∙ ap (λ (o : ℕ). drop o s) (sym (past_offset b p)))))
+  line_on_lem [] p h e = reached_here h
+  line_on_lem (b ∷ l) p h e = go (eqb b 10) (reached_on (advanced_reached a) (line_on_lem l (past b p) a.stands ((rest s p.offset b l e).1 ∙ ap (λ (o : ℕ). drop o s) (sym (past_offset b p)))))
     where
       a : Advanced s p (past b p)
       a = past_stands s b p h (rest s p.offset b l e).0
@@ -327,7 +327,7 @@ module _ (s : Text) where
       go false ih = ih
 
   pub line_end_on : (p : Place) → Stands s p → Reached s p (line_end (drop p.offset s) p)
-  line_end_on p h = line_on (drop p.offset s) p h refl
+  line_end_on p h = line_on_lem (drop p.offset s) p h refl
 
   pass_by_line : (at : Place) (l : Text) (p : Place) → l ≡ drop p.offset s → pass at line l p ≡ pass_from s at between (line_end l p)
   unfolding pass line_end

@@ -26,7 +26,7 @@ use Rattle.records.specs.declared.kind.Kind.TheVariants as kinds
 use Rattle.records.specs.declared.row.Row.{Row}
 use Rattle.records.specs.Rows.{Lent, layout, record_of}
 use Rattle.records.specs.Nodes.{row_like, MakesRow}
-use Rattle.records.proofs.Laws.Nodes.{place_kept, row_as, row_at, does_keeps, does_length, read_of, refused_of}
+use Rattle.records.proofs.Laws.Nodes.{place_kept, row_as, row_at_lem, does_keeps, does_length, read_of, refused_of}
 use Rattle.grammar.specs.declared.leaves.Atom.{Atom}
 use Rattle.grammar.specs.declared.leaves.Atom.TheVariants as atom
 use Rattle.grammar.specs.declared.leaves.Postfix.{Postfix}
@@ -90,7 +90,7 @@ module _ {s : Text} {cap comps left : ℕ} {at : Place} {t : Tally} {A B : List 
           choice_made m =
               let more = does_more (read_of f d.does) in
               let i = place_kept (does_keeps c.does) t.records more ∙ place_kept (does_keeps d.does) t.records (omega arith) in
-              choice_on (reads_then y c (reads_make (ready_then choice_ready y c) (row_at i m)))
+              choice_on (reads_then y c (reads_make (ready_then choice_ready y c) (row_at_lem i m)))
 
 -- ---- prefix: ( '!' | '-' | '+' ) prefix | postfix
 

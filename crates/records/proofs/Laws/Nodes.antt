@@ -176,10 +176,10 @@ pub row_as : {before later : List ℕ} {cap : ℕ} {t : Tally} {at : Place} {w v
     → MakesRow cap t at v r before later
 row_as e h = rw e at h
 
-pub row_at : {before later : List ℕ} {cap : ℕ} {t : Tally} {at q p : Place} {kind : Kind} {a b c : ℕ} {r : Got} → q ≡ p
+pub row_at_lem : {before later : List ℕ} {cap : ℕ} {t : Tally} {at q p : Place} {kind : Kind} {a b c : ℕ} {r : Got} → q ≡ p
     → MakesRow cap t at (row_at_place kind q a b c) r before later
     → MakesRow cap t at (row_at_place kind p a b c) r before later
-row_at {kind = kind} {a = a} {b = b} {c = c} e h = row_as (ap (λ (x : Place). row_at_place kind x a b c) e) h
+row_at_lem {kind = kind} {a = a} {b = b} {c = c} e h = row_as (ap (λ (x : Place). row_at_place kind x a b c) e) h
 
 -- ---- values
 

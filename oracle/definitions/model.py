@@ -43,7 +43,7 @@ LATE = "Process.test"
 WORD = re.compile(r"""
     (?P<blank>\s+|--(?=[\s-])[^\n]*) | "(?P<text>(?:[^"\\]|\\.)*)" | (?P<mark>\[\]|λ|[(){}\[\];,])
     | (?P<number>0x[0-9A-Fa-f]+|[0-9]+)(?![^\s(){}\[\];,"])
-    | (?<=[^\s])\.(?P<field>[^\s(){}\[\];,".]+) | (?P<name>[^\s(){}\[\];,".]+|\.(?![^\s(){}\[\];,"]))""", re.X)
+    | (?<=\S)\.(?P<field>[^\s(){}\[\];,".]+) | (?P<name>[^\s(){}\[\];,".]+|\.(?![^\s(){}\[\];,"]))""", re.X)
 ESCAPES = {"n": "\n", "t": "\t", "r": "\r", "0": "\0"}
 
 
@@ -53,6 +53,8 @@ def words_of(text):
     out, at = [], 0
     while at < len(text):
         found = WORD.match(text, at)
+        if not found:
+            raise SystemExit("no word: %s" % text[at:at + 40])
         kind, value = found.lastgroup, found.group(found.lastgroup)
         if kind == "text":
             out.append(("text", re.sub(r"\\(.)", lambda m: ESCAPES.get(m.group(1), m.group(1)), value)))

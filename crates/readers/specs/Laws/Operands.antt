@@ -17,7 +17,6 @@ use Rattle.reading.specs.declared.tally.Tally.{Tally}
 use Rattle.reading.specs.declared.answer.Got.{Got}
 use Rattle.reading.specs.declared.answer.Got.TheVariants.{Read, Refused}
 use Rattle.reading.specs.declared.answer.Out.{Out}
-use Rattle.reading.specs.declared.answer.Out.TheVariants as out
 use Rattle.reading.specs.Process.{make, call, bind}
 use Rattle.reading.specs.Says.{Does}
 use Rattle.reading.proofs.Laws.Does.{by_done, by_stop, then, stops, along, yes_way, no_way, taken, too_deep, enter, does_more}

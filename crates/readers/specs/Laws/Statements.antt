@@ -12,7 +12,7 @@ use Rattle.characters.specs.declared.tokens.Must.TheVariants.{Taken, Failed}
 use Rattle.characters.specs.Text.{Text, Stands, ascii, on_by}
 use Rattle.characters.specs.PlaceLaws.{Reached, Advanced, reached_here, reached_on}
 use Rattle.characters.specs.Tokens.{token, keyword, expected}
-use Rattle.characters.specs.TokenLaws.{TokenOn, token_on, keyword_on}
+use Rattle.characters.specs.TokenLaws.{TokenOn, keyword_on}
 use Rattle.reading.specs.declared.tally.Tally.{Tally}
 use Rattle.reading.specs.declared.answer.Got.{Got}
 use Rattle.reading.specs.declared.answer.Got.TheVariants.{Read, Refused}

@@ -1,20 +1,10 @@
 -- What falls on the way round the cycle: a factor times the levels left, and a rank; and what its loops keep. Assumes nothing.
-use Rattle.std.proofs.Common.{◌+◌, ◌*◌, length, ◌∙◌, rules, ℕ, ◌-◌, false, refl, arith}
-use Rattle.grammar.specs.ReadLaws.{read_ends, reads_stop, reads_then, ready_at, refuses, ready_then, read_stored}
-use Rattle.makers.specs.Laws.Acts.{begun_then, not_false, not_true, room_of, ready_need, alone_reads, last_stored}
-use Rattle.makers.specs.Laws.Chaining.{Chaining, chain_assigns, chain_ends, chain_refuses, chaining_room, chaining_starts, choice_begun, choice_full, choice_read, operator_again, operator_full, operator_less, operator_ready, operator_room, operator_stops}
-use Rattle.makers.specs.Laws.Plain.{as_expression, enters, plain_called, plain_counts, plain_first, plain_on, plain_posts, plain_read, plain_term, plain_whole, reads_not, reads_over, ready_not, rest_near}
-use Rattle.makers.specs.Laws.PlainEnds.{near_stands}
-use Rattle.reading.proofs.Laws.Does.{too_deep, by_stop}
-use Rattle.readers.specs.Laws.Answers.{list_ready, ready_found, ready_missing, parts_ready}
-use Rattle.readers.specs.Laws.Operands.{Posting, array_made, array_stops, atom_brace, atom_bracket, atom_closed, atom_made, atom_paren, atom_stops, atom_wrong, brace_ready, bracket_ready, call_made, call_many, call_stops, choice_fails, choice_like, choice_made, choice_ready, choice_stops, choice_stops_last, index_fails, index_made, index_stops, lambda_called, operand_ready, paren_fails, paren_read, paren_ready, paren_stops, postfix_read, postfix_stops, posting_called, posting_starts, posts_again, posts_begun, posts_end, posts_less, posts_stops, posts_wrong, prefix_deep, prefix_other, prefix_ready, prefix_signed, prefix_stops, prefix_wrong, signed_room, suffix_begun, suffix_call, suffix_index, suffix_instance, suffix_member}
-use Rattle.makers.specs.Laws.NamesRead.{Dicting, dict_ends, dict_first, dict_follow_end, dict_follow_ends, dict_follow_halts, dict_further, dict_halts, dict_here, dict_next, dict_on, dict_refused, key_taken, pair_clashes, pair_fails, pair_made, pair_ready, pair_stops, taken_packs}
-use Rattle.makers.specs.Laws.Turns.{turn_less}
-use Rattle.readers.specs.Laws.Lists.{Listing, element_deep, element_made, element_stops, list_again, list_counts, list_ends, list_first, list_follow_ends, list_follow_halts, list_halts, list_here, list_less, list_next, list_refused, value_halts, value_implied, value_read}
-use Rattle.readers.specs.Laws.Functions.{Blocking, bar_ready, bar_room, block_again, block_ends, block_first, block_full, block_halts, block_here, block_less, block_next, block_stops, function_bare, function_fails, function_made, function_refused, function_stops, lambda_made, lambda_refused, lambda_stops, params_ready, result_block, result_halts, result_made, result_stops}
-use Rattle.readers.specs.Laws.Statements.{assert_fails, assert_read, assert_stops, body_declares, body_read, body_stops, condition_fails, condition_read, else_halts, else_none, else_read, else_ready, else_stops, fun_closed, fun_fails, fun_full, fun_packs, fun_read, fun_ready, fun_stops, if_body_stops, if_read, if_stops, let_fails, let_read, let_ready, let_stops, let_wrong, loop_read, loop_stops, return_fails, return_full, return_halts, return_made, return_nil, return_read, return_ready, return_stops, statement_read, statement_ready, while_body_stops, while_read, while_stops}
-use Rattle.readers.specs.Laws.Loops.{as_first, as_test, as_third, ended_fails, ended_read, ended_stops, for_lacks, for_read, for_stops, for_told, part_absent, part_halts, part_read, part_ready, part_stops, round_made, round_stops, round_told}
-use Rattle.readers.specs.Laws.Assignments.{assign_read, assign_stops, assign_wrong, do_lacks, do_made, do_refused, step_made, step_ready, step_stops, store_combined, store_lacks, store_made, store_ready, store_refused, store_stops, target_made}
+use Rattle.std.proofs.Common.{◌+◌, ◌*◌, length, ◌-◌}
+use Rattle.makers.specs.Laws.Chaining.{Chaining}
+use Rattle.readers.specs.Laws.Operands.{Posting}
+use Rattle.makers.specs.Laws.NamesRead.{Dicting}
+use Rattle.readers.specs.Laws.Lists.{Listing}
+use Rattle.readers.specs.Laws.Functions.{Blocking}
 use Rattle.readers.proofs.cycle.+readers.Given as goal
 
 abbrev pub decreases-array : goal.decreases-array

@@ -1,6 +1,6 @@
 -- The laws of the entries: what the promises of reading come to for a unit. A text that is too long is refused by 1 before reading, so what is
 -- said of the unlimited reading holds of every text. Assumes nothing.
-use Rattle.std.specs.Prelude.{◌≡◌, ◌⊎◌, ◌↔◌, Bool, ℕ, ◌+◌, ◌*◌, ◌≤◌, ◌<◌, length, get_or, take, drop}
+use Rattle.std.specs.Prelude.{◌≡◌, ◌⊎◌, ◌↔◌, Bool, ℕ, ◌*◌, ◌≤◌, ◌<◌, length, get_or, take, drop}
 use Rattle.std.proofs.Math.Path.{refl, sym, subst⁻¹}
 use Rattle.std.proofs.Common.{ap, subst, ◌∙◌, inl, inr, arith}
 use Rattle.std.proofs.Math.Bool.{true, false}
@@ -18,7 +18,7 @@ use Rattle.reading.specs.Events.{Rec, Which, End, Done, Stop, Crossed, Spent, Ou
 use Rattle.reading.specs.Limits.{Limits, limited, cut}
 use Rattle.reading.specs.Process.{reading, unlimited}
 use Rattle.reading.specs.Answers.{refusal_of, answer_of, answer_from}
-use Rattle.reading.specs.Demands.{Below, by_limit, Opens, Grows, Crosses, Counted, AllEarlier}
+use Rattle.reading.specs.Demands.{by_limit, Opens, Grows, Crosses, Counted, AllEarlier}
 use Rattle.reading.specs.Suits.{AllFine, Proper}
 use Rattle.reading.specs.Entry.{Opening, permitted, nowhere, gated, opened, entry}
 use Rattle.reading.specs.Says.{laid, Says}

@@ -9,7 +9,7 @@ use Rattle.characters.specs.declared.tokens.Must.TheVariants.{Taken, Failed}
 use Rattle.characters.specs.Text.{Text, byte_at, ascii, on_by}
 use Rattle.characters.specs.Blanks.{blanks}
 use Rattle.characters.specs.Names.{is_letter, name, free_by, free_name, part, word_of}
-use Rattle.characters.specs.Tokens.{found_by, is_keyword, keyword_past, token, keyword, expected}
+use Rattle.characters.specs.Tokens.{found_by, is_keyword, keyword_past, keyword, expected}
 use Rattle.literals.specs.NumberLaws.{choice}
 use Rattle.reading.specs.Suits.{proper}
 use Rattle.grammar.specs.declared.heads.StatementHead.{StatementHead}

@@ -1,6 +1,6 @@
 -- THE LEAVES REFUSE PROPERLY: what a leaf refuses by is a rule's to give. By cases, along the definition of each. The
 -- comments name the refusals; the theorems say only that they are proper. Assumes nothing.
-use Rattle.std.specs.Prelude.{Bool, true, false, ◌&&◌, ◌||◌, not, List, [], ◌∷◌, ℕ, zero, suc, ◌+◌, ◌-◌, ◌*◌, T, leb, ltb, eqb, drop}
+use Rattle.std.specs.Prelude.{Bool, true, false, ◌&&◌, ◌||◌, not, [], ◌∷◌, ℕ, zero, suc, ◌+◌, ◌-◌, ◌*◌, T, leb, ltb, eqb, drop}
 use Rattle.characters.specs.declared.place.Place.{Place}
 use Rattle.characters.specs.declared.refusal.Refusal.{Refusal}
 use Rattle.characters.specs.declared.refusal.Refusal.TheVariants.{ExpectedDigit, NoExponentDigits, BadStringEscape}
@@ -8,7 +8,7 @@ use Rattle.characters.specs.declared.tokens.Look.{Look}
 use Rattle.characters.specs.declared.tokens.Look.TheVariants.{Found, Missing, Halted}
 use Rattle.characters.specs.declared.tokens.Must.{Must}
 use Rattle.characters.specs.declared.tokens.Must.TheVariants.{Taken, Failed}
-use Rattle.characters.specs.Text.{Text, byte_at, ascii, on_by, past, next}
+use Rattle.characters.specs.Text.{Text, byte_at, ascii, on_by, past}
 use Rattle.characters.specs.Blanks.{is_blank, begins, Mode, between, line, block, passing, out, pass, blanks}
 use Rattle.characters.specs.Names.{is_digit, is_letter, name_by, name, part, word_of}
 use Rattle.characters.specs.Tokens.{found_by, is_token, is_keyword, token_past, token, needed, expected}
@@ -35,7 +35,7 @@ use Rattle.grammar.specs.declared.leaves.Postfix.{Postfix}
 use Rattle.grammar.specs.declared.leaves.Postfix.TheVariants as post
 use Rattle.records.specs.declared.kind.Kind.{Kind}
 use Rattle.records.specs.declared.kind.Kind.TheVariants as kinds
-use Rattle.grammar.specs.Leaves.{prefix_by, prefix_past, prefix_of, number_atom, span_atom, word_atom, name_atom, atom_by, atom_of, member_by, instance_by, instance_past, postfix_by, postfix_past, postfix_of, close_by, close_past, close_of, comma_by, follow_by, follow_of, key_at}
+use Rattle.grammar.specs.Leaves.{prefix_by, prefix_past, prefix_of, number_atom, span_atom, word_atom, name_atom, atom_of, member_by, instance_by, instance_past, postfix_by, postfix_past, postfix_of, close_past, close_of, comma_by, follow_by, follow_of, key_at}
 
 -- What has to be there is there, or is refused properly.
 abbrev pub MustProper : Must → Type 0

@@ -2,12 +2,12 @@
 use Rattle.std.specs.Prelude.{◌≡◌, Bool, length}
 use Rattle.std.proofs.Math.Path.{refl}
 use Rattle.std.proofs.Common.{sym, subst, arith}
-use mathlib.Core.List.{List, [], ◌∷◌}
+use mathlib.Core.List.{List, []}
 use Prim.Native.Nat.{ℕ, zero, suc, ◌-◌, ◌*◌, ◌≤◌, ◌<◌}
 use Rattle.characters.specs.declared.place.Place.{Place}
 use Rattle.characters.specs.declared.place.Span.{Span}
 use Rattle.characters.specs.Text.{Text, Stands}
-use Rattle.characters.specs.PlaceLaws.{Reached, Advanced, advanced_on, advanced_reached}
+use Rattle.characters.specs.PlaceLaws.{Advanced, advanced_on, advanced_reached}
 use Rattle.reading.specs.declared.node.Node.{Node}
 use Rattle.reading.specs.Events.{Rec}
 use Rattle.reading.proofs.Laws.Suits.{since_same, since_with, since_trans}

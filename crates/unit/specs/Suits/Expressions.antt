@@ -1,6 +1,6 @@
 -- THE RULES OF EXPRESSIONS SUIT: each moves on inside the text, so every loop has turns enough; it answers with the record of an expression;
 -- and its records' fields are what the table says of them. Assumes nothing.
-use Rattle.std.specs.Prelude.{◌≡◌, Bool, true, false, length}
+use Rattle.std.specs.Prelude.{◌≡◌, Bool, length}
 use Rattle.std.proofs.Math.Path.{refl}
 use Rattle.std.proofs.Common.{sym, subst, arith}
 use mathlib.Core.List.{List, [], ◌∷◌}
@@ -33,7 +33,7 @@ use Rattle.grammar.specs.LeafLaws.{PrefixOn, prefix_on, PostfixOn, postfix_on, K
 use Rattle.grammar.specs.LinkLaws.{LinkOn, link_on}
 use Rattle.grammar.specs.AtomLaws.{AtomOn, atom_on}
 use Rattle.unit.specs.Refusing.{MustProper, PrefixProper, prefix_proper, AtomProper, atom_proper, PostfixProper, postfix_proper, key_proper}
-use Rattle.grammar.specs.Expressions.{expression, operand, lambda, Rule, turns, element_p, list_p, new_key, value_p, pair_p, dict_p, paren_p, array_p, closure_p, atom_as, atom_p, call_p, index_p, extend_p, postfix_as, postfixes_p, postfix_p, minus_p, plus_p, sign_p, prefix_as, prefix_p, Pending, reduce_p, choice_p, link_as, chain_p, expression_p}
+use Rattle.grammar.specs.Expressions.{expression, operand, Rule, turns, element_p, list_p, new_key, value_p, pair_p, dict_p, paren_p, array_p, closure_p, atom_as, atom_p, call_p, index_p, extend_p, postfix_as, postfixes_p, postfix_p, minus_p, plus_p, sign_p, prefix_as, prefix_p, Pending, reduce_p, choice_p, link_as, chain_p, expression_p}
 use Rattle.unit.specs.Suits.Falling.{chosen, Works, MayWork, Room, called, below, still, advanced_then, turned, enough, fits_close, fits_follow, fits_token, fits_expected}
 
 -- ---- keys

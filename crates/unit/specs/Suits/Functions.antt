@@ -1,6 +1,6 @@
 -- THE RULES OF PARAMETERS, BLOCKS, FUNCTIONS AND LAMBDAS SUIT: a block answers with the record of a statement, a function and a lambda with
 -- that of a function. Assumes nothing.
-use Rattle.std.specs.Prelude.{◌≡◌, Bool, true, false, eqb, length}
+use Rattle.std.specs.Prelude.{◌≡◌, eqb, length}
 use Rattle.std.proofs.Math.Path.{refl}
 use Rattle.std.proofs.Common.{sym, subst, arith}
 use mathlib.Core.List.{List, [], ◌∷◌}

@@ -2,24 +2,24 @@
 use Rattle.std.specs.Prelude.{◌≡◌, Bool, true, false, ◌&&◌, eqb, length}
 use Rattle.std.proofs.Math.Path.{refl}
 use Rattle.std.proofs.Common.{sym, subst, arith}
-use mathlib.Core.List.{List, [], ◌∷◌}
+use mathlib.Core.List.{List, []}
 use Prim.Native.Nat.{ℕ, zero, suc, ◌+◌, ◌-◌, ◌*◌, ◌≤◌, ◌<◌}
 use Rattle.characters.specs.declared.place.Place.{Place}
 use Rattle.characters.specs.Text.{Text, byte_at, ascii, Stands, start as first}
-use Rattle.characters.specs.PlaceLaws.{Reached, Advanced, reached_here, reached_on, advanced_on, advanced_reached}
-use Rattle.characters.specs.Blanks.{line_end, file_start}
+use Rattle.characters.specs.PlaceLaws.{Reached, Advanced, reached_on, advanced_on, advanced_reached}
+use Rattle.characters.specs.Blanks.{file_start}
 use Rattle.characters.specs.BlankLaws.{line_end_on}
 use Rattle.literals.specs.NumberLaws.{choice as either}
 use Rattle.reading.specs.declared.node.Node.{Node}
 use Rattle.reading.specs.Events.{Rec}
 use Rattle.reading.specs.Process.{make}
 use Rattle.reading.specs.Suits.{Since, Suits}
-use Rattle.reading.proofs.Laws.Suits.{since_same, since_with, since_trans}
-use Rattle.reading.proofs.Laws.Rules.{Fits, fits_done, fits_stop, fits_make, fits_fresh, fits_call, fits_test, fits_bind}
+use Rattle.reading.proofs.Laws.Suits.{since_with, since_trans}
+use Rattle.reading.proofs.Laws.Rules.{Fits, fits_stop, fits_make, fits_fresh, fits_call, fits_test, fits_bind}
 use Rattle.records.specs.Kinds as table
 use Rattle.records.specs.Rows.{record_of}
 use Rattle.records.specs.Meanings.{Is, MayBe, none, some}
-use Rattle.records.proofs.Laws.Meanings.{is_since, is_new, maybe_since, meant_earlier}
+use Rattle.records.proofs.Laws.Meanings.{is_new, maybe_since, meant_earlier}
 use Rattle.grammar.specs.declared.heads.ItemHead.{ItemHead}
 use Rattle.grammar.specs.declared.heads.ItemHead.TheVariants.{End, Class, Statement, Wrong}
 use Rattle.grammar.specs.Heads.{item_of}
@@ -28,7 +28,7 @@ use Rattle.unit.specs.HeadRefusing.{ItemProper, item_proper}
 use Rattle.grammar.specs.Expressions.{Routine, expression, before_assignment, operand, statement, function, lambda, class, turns, stated_row}
 use Rattle.grammar.specs.Grammar.{grammar}
 use Rattle.grammar.specs.Units.{Declared, nothing, declared_name, unit_item_p, class_item_p, unit_end_p, item_as, items_p, unit_p, start_of}
-use Rattle.unit.specs.Suits.Falling.{Begins, chosen, Works, Room, called, still, advanced_then, turned, enough}
+use Rattle.unit.specs.Suits.Falling.{Begins, chosen, Works, Room, called, still, turned, enough}
 use Rattle.unit.specs.Suits.Expressions.{prefix_works, expression_works}
 use Rattle.unit.specs.Suits.Functions.{fits_keyword, fits_new_name, function_works, lambda_works}
 use Rattle.unit.specs.Suits.Statements.{statement_works}

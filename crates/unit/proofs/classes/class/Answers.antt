@@ -1,5 +1,4 @@
 -- `class` takes a level. Assumes nothing.
-use Rattle.std.proofs.Common.{rules}
 use Rattle.unit.specs.Laws.Classes.{class_deep, class_entered}
 use Rattle.unit.proofs.classes.class.Goals as goal
 

@@ -1,5 +1,4 @@
 -- `is_init` compares four bytes. Assumes nothing.
-use Rattle.std.proofs.Common.{rules}
 use Rattle.unit.specs.Laws.Classes.{init_sized, init_spelled}
 use Rattle.unit.proofs.classes.is_init.Goals as goal
 

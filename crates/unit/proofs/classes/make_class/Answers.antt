@@ -1,5 +1,4 @@
 -- `make_class` by its rule: an id, then a record. Assumes nothing.
-use Rattle.std.proofs.Common.{rules}
 use Rattle.unit.specs.Laws.Classes.{class_made}
 use Rattle.unit.proofs.classes.make_class.Goals as goal
 

@@ -1,5 +1,5 @@
 -- `method` by its rule: a name that is new, its function and its item. Assumes nothing.
-use Rattle.std.proofs.Common.{arith, rules}
+use Rattle.std.proofs.Common.{arith}
 use Rattle.unit.specs.Laws.Classes.{name_spans, name_packs, method_unnamed, method_again, method_begun, method_refused, method_stored, method_lent, method_init, method_item}
 use Rattle.unit.proofs.classes.method.Goals as goal
 

@@ -1,8 +1,8 @@
 -- `methods`: each turn reads one method, and what is left of the text falls. Assumes nothing.
-use Rattle.std.proofs.Common.{◌∙◌, ◌-◌, length, rules}
+use Rattle.std.proofs.Common.{◌∙◌}
 use Rattle.makers.specs.Laws.Acts.{room_of}
 use Rattle.makers.specs.Laws.Turns.{turn_less}
-use Rattle.unit.specs.Laws.Classes.{MethodTurns, methods_first, methods_halts, methods_ends, methods_here, methods_refused, methods_further, methods_on}
+use Rattle.unit.specs.Laws.Classes.{methods_first, methods_halts, methods_ends, methods_here, methods_refused, methods_further, methods_on}
 use Rattle.unit.proofs.classes.methods.Goals as goal
 
 pub loop-refusal-init : goal.loop-refusal-init

@@ -1,5 +1,5 @@
 -- `named_class` by its rule: a name that is new, its head and its methods. Assumes nothing.
-use Rattle.std.proofs.Common.{arith, rules}
+use Rattle.std.proofs.Common.{arith}
 use Rattle.unit.specs.Laws.Classes.{class_packs, class_unnamed, class_clashes, class_ready, class_wrong, class_body, class_read}
 use Rattle.unit.proofs.classes.named_class.Goals as goal
 

@@ -1,5 +1,4 @@
 -- `read`: 1, 2, 3, or the reading of the unit. Assumes nothing.
-use Rattle.std.proofs.Common.{rules}
 use Rattle.unit.specs.Laws.Entering.{enters_long, enters_zero, enters_over, enters_unsound, enters_ready, enters_read}
 use Rattle.unit.proofs.entries.read.Goals as goal
 

@@ -1,5 +1,4 @@
 -- `refused` has made nothing. Assumes nothing.
-use Rattle.std.proofs.Common.{rules}
 use Rattle.unit.specs.Laws.Entering.{told_before}
 use Rattle.unit.proofs.entries.refused.Goals as goal
 

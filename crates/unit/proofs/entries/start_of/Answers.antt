@@ -1,5 +1,5 @@
 -- `start_of` by its mark. Assumes nothing.
-use Rattle.std.proofs.Common.{false, rules}
+use Rattle.std.proofs.Common.{false}
 use Rattle.unit.specs.Suits.Units.{start_stands}
 use Rattle.unit.specs.Laws.Entering.{starts_file, starts_string}
 use Rattle.unit.proofs.entries.start_of.Goals as goal

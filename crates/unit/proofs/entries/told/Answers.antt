@@ -1,5 +1,4 @@
 -- `told` by cases. Assumes nothing.
-use Rattle.std.proofs.Common.{rules}
 use Rattle.unit.specs.Laws.Entering.{told_read, told_refused}
 use Rattle.unit.proofs.entries.told.Goals as goal
 

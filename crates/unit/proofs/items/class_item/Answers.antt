@@ -1,5 +1,4 @@
 -- `class_item`: a class, its declaration and its item. Assumes nothing.
-use Rattle.std.proofs.Common.{rules}
 use Rattle.makers.specs.Laws.Acts.{room_of}
 use Rattle.unit.specs.Laws.Items.{class_item_refused, class_lent, class_full, class_next, class_itemed}
 use Rattle.unit.proofs.items.class_item.Goals as goal

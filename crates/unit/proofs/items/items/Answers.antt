@@ -1,8 +1,8 @@
 -- `items`: each turn reads one item, and what is left of the text falls. Assumes nothing.
-use Rattle.std.proofs.Common.{◌∙◌, ◌-◌, length, rules}
+use Rattle.std.proofs.Common.{◌∙◌}
 use Rattle.makers.specs.Laws.Acts.{room_of}
 use Rattle.makers.specs.Laws.Turns.{turn_less}
-use Rattle.unit.specs.Laws.Items.{ItemTurns, items_first, items_wrong, items_end, items_class, items_statement, items_refused, items_further, items_on}
+use Rattle.unit.specs.Laws.Items.{items_first, items_wrong, items_end, items_class, items_statement, items_refused, items_further, items_on}
 use Rattle.unit.proofs.items.items.Goals as goal
 
 pub loop-refusal-init : goal.loop-refusal-init

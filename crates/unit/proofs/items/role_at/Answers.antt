@@ -1,5 +1,5 @@
 -- `role_at` looks at the kind, then at what a `let` declares. Assumes nothing.
-use Rattle.std.proofs.Common.{arith, rules}
+use Rattle.std.proofs.Common.{arith}
 use Rattle.unit.specs.Laws.Items.{role_none, role_constant, role_named, role_other}
 use Rattle.unit.proofs.items.role_at.Goals as goal
 

@@ -1,5 +1,5 @@
 -- `statement_end` by its rule: a global, a function whose name is new, or another statement. Assumes nothing.
-use Rattle.std.proofs.Common.{arith, rules}
+use Rattle.std.proofs.Common.{arith}
 use Rattle.makers.specs.Laws.Acts.{room_of}
 use Rattle.unit.specs.Laws.Items.{end_constant, end_clashes, function_ready, end_function, end_other}
 use Rattle.unit.proofs.items.statement_end.Goals as goal

@@ -1,5 +1,4 @@
 -- `statement_item`: a statement, then its item. Assumes nothing.
-use Rattle.std.proofs.Common.{rules}
 use Rattle.unit.specs.Laws.Items.{statement_refused, statement_begun, statement_few, statement_itemed}
 use Rattle.unit.proofs.items.statement_item.Goals as goal
 

@@ -1,5 +1,4 @@
 -- `unit` by its rule: no `from`, then its items. Assumes nothing.
-use Rattle.std.proofs.Common.{rules}
 use Rattle.unit.specs.Laws.Items.{unit_here, unit_halts, unit_from, unit_read}
 use Rattle.unit.proofs.items.unit.Goals as goal
 

@@ -1,5 +1,4 @@
 -- `unit_end` by its rule: a block, then a function. Assumes nothing.
-use Rattle.std.proofs.Common.{rules}
 use Rattle.unit.specs.Laws.Items.{block_full, block_room, unit_ended}
 use Rattle.unit.proofs.items.unit_end.Goals as goal
 

@@ -1,6 +1,6 @@
 -- THE PROMISES of a unit's reading: the demands on it, said in document 01's words, for every text, pool and limits. Read this page first: each
 -- proof is one citation. What the words mean stands in Entries (the contract), Units and Grammar (the rules), in reading's Demands and in
--- records' Kinds, Rows and Meanings. crates/reading/specs/Promises.antt has the same for any grammar. Assumes nothing.
+-- records' Kinds, Rows and Meanings. crates/reading/proofs/Promises.antt has the same for any grammar. Assumes nothing.
 use Rattle.std.specs.Prelude.{◌≡◌, refl, ◌↔◌, Bool, true, false, List, [], ◌++◌, ℕ, ◌*◌, ◌≤◌, ◌<◌, length, get_or, drop}
 use Rattle.std.proofs.Common.{sym, ◌∙◌}
 use Rattle.characters.specs.declared.place.Place.{Place}

@@ -216,6 +216,14 @@ module _ (l : Lead) (s : Text) (at : ℕ) where
         let z : l.0 - k ≡ 0 = omega arith in
         sym e ∙ sym (passed ∙ ap (λ (n : ℕ). width_if (fits (replicate n tail) (drop (at + k) s)) l.0) z)
 
+  -- past the third byte, and the fourth
+  module _ (two : inside (l.1 to l.2) (get_or s (at + 1) 0) ≡ true) (three : inside tail (get_or s (at + 2) 0) ≡ true) where
+    pub third_yes : 3 ≤ l.0 → at + 2 < length s → Passed l s at 3
+    third_yes w h = other_yes 2 (second_yes (omega arith) (omega arith) two) (omega arith) h three
+
+    pub fourth_yes : 4 ≤ l.0 → at + 3 < length s → inside tail (get_or s (at + 3) 0) ≡ true → Passed l s at 4
+    fourth_yes w h four = other_yes 3 (third_yes (omega arith) (omega arith)) (omega arith) h four
+
 -- ---- the character at an offset
 
 pub sequence_past : (s : Text) (at : ℕ) → length s ≤ at → 0 ≡ sequence_of (drop at s)
@@ -399,6 +407,26 @@ char_more s at n k v w d h l e =
 pub char_done : (s : Text) (at n k v : ℕ) → Decoded s at n k v → n ≡ k → v ≡ char_of (drop at s)
 unfolding bits
 char_done s at n k v d e = let z : n - k ≡ 0 = omega arith in sym (d ∙ ap (λ (m : ℕ). bits v (take m (drop (at + (k + 1)) s))) z)
+
+-- a character of `w` bytes, more than one: past its lead, its second byte, its third, its fourth
+module _ (s : Text) (at w : ℕ) (here : at < length s) (high : 0x80 ≤ get_or s at 0) (is : w ≡ sequence_of (drop at s)) (some : w ≡ 0 → ⊥) where
+  pub beyond : Wide s at (w - 1)
+  beyond = wide s at w (w - 1) here high is (omega arith)
+
+  module _ (m : ℕ) (low : m ≡ mark (w - 1)) where
+    lead_read : Decoded s at (w - 1) 0 (get_or s at 0 - m)
+    lead_read = char_lead s at w (w - 1) _ here is (omega arith) (ap (λ (k : ℕ). get_or s at 0 - k) low)
+
+    module _ (x : ℕ) (two : x ≡ (get_or s at 0 - m) * 64 + (get_or s (at + 1) 0 - 0x80)) where
+      pub second_read : Decoded s at (w - 1) 1 x
+      second_read = let b = beyond in let i = b.some in let r = b.room in char_more s at (w - 1) 0 _ x lead_read i (omega arith) two
+
+      module _ (y : ℕ) (three : y ≡ x * 64 + (get_or s (at + 2) 0 - 0x80)) (more : w - 1 ≡ 1 → ⊥) where
+        pub third_read : Decoded s at (w - 1) 2 y
+        third_read = let b = beyond in let i = b.some in let r = b.room in char_more s at (w - 1) 1 x y second_read (omega arith) (omega arith) three
+
+        pub fourth_read : (z : ℕ) → z ≡ y * 64 + (get_or s (at + 3) 0 - 0x80) → (w - 1 ≡ 2 → ⊥) → Decoded s at (w - 1) 3 z
+        fourth_read z four last = let b = beyond in let i = b.some in let r = b.room in char_more s at (w - 1) 2 y z third_read (omega arith) (omega arith) four
 
 pub char_past : (s : Text) (at : ℕ) → length s ≤ at → 0 ≡ char_of (drop at s)
 unfolding char_of

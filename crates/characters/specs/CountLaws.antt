@@ -64,6 +64,22 @@ module _ (f : ℕ → Bool) (s : Text) where
   run_many {from} {i} zero v h all = subst (In from) (let z : i ≡ i + 0 = omega arith in z) v
   run_many {from} {i} (suc n) v h all = run_on (i + suc n) (run_many n v (omega arith) (λ k l. all k (omega arith))) (sym (all n (omega arith))) refl (omega arith) (omega arith)
 
+  -- a loop that goes four bytes a turn: past the first ones of them
+  module _ {from i : ℕ} (v : In from i) (room : i + 4 ≤ length s) (one : f (get_or s i 0) ≡ true) where
+    pub past_one : In from (i + 1)
+    past_one = run_on (i + 1) v (sym one) refl refl (omega arith)
+
+    module _ (two : f (get_or s (i + 1) 0) ≡ true) where
+      pub past_two : In from (i + 2)
+      past_two = run_on (i + 2) past_one (sym two) refl (omega arith) (omega arith)
+
+      module _ (three : f (get_or s (i + 2) 0) ≡ true) where
+        pub past_three : In from (i + 3)
+        past_three = run_on (i + 3) past_two (sym three) refl (omega arith) (omega arith)
+
+        pub past_four : f (get_or s (i + 3) 0) ≡ true → In from (i + 4)
+        past_four four = run_on (i + 4) past_three (sym four) refl (omega arith) (omega arith)
+
   pub run_ends : {from i : ℕ} {r : Bool} (j : ℕ) → In from i → r ≡ f (get_or s i 0) → not r ≡ true → j ≡ i → i < length s → j ≡ end_of f s from
   run_ends {from} {i} j v t n e h =
       let a : count_of f (drop i s) ≡ 0 = ap (count_of f) (drop-cons s i 0 h) ∙ count_no f (get_or s i 0) (drop (suc i) s) (sym t ∙ not-true _ n) in

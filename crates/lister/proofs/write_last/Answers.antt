@@ -10,7 +10,4 @@ slice_bounds-write_all-end c =
     omega arith
 
 pub slice_bounds-write_all-end-2 : goal.slice_bounds-write_all-end-2
-slice_bounds-write_all-end-2 c =
-    let z = last_ends _ (record { number = search rules; line = search rules; column = search rules; records = search rules; comparisons = search rules }) c.requires c.last-end.ensures in
-    let k = c.last-end.auto.out in
-    sym (length-take-le _ _ (omega arith))
+slice_bounds-write_all-end-2 c = sym (length-take-le _ _ (slice_bounds-write_all-end c))

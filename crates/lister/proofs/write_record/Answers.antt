@@ -10,7 +10,4 @@ slice_bounds-write_all-end c =
     omega arith
 
 pub slice_bounds-write_all-end-2 : goal.slice_bounds-write_all-end-2
-slice_bounds-write_all-end-2 c =
-    let z = line_ends _ _ _ (omega arith) (λ i. omega (arith, c.type_inv.pool i)) c.requires c.line-end.ensures in
-    let k = c.line-end.auto.out in
-    sym (length-take-le _ _ (omega arith))
+slice_bounds-write_all-end-2 c = sym (length-take-le _ _ (slice_bounds-write_all-end c))

@@ -1,8 +1,8 @@
 -- `line_stop` goes along a line, to its LF. Assumes nothing.
-use Rattle.std.proofs.Common.{refl, sym, ◌+◌, arith}
+use Rattle.std.proofs.Common.{refl, sym, arith}
 use Rattle.characters.specs.Blanks.{is_in_line}
 use Rattle.characters.specs.BlankLaws.{in_line, no_line}
-use Rattle.characters.specs.CountLaws.{In, run_starts, run_on, run_ends, run_out}
+use Rattle.characters.specs.CountLaws.{run_starts, run_on, past_one, past_two, past_three, past_four, run_ends, run_out}
 use Rattle.characters.proofs.blanks.line_stop.Goals as goal
 
 pub loop-i-init : goal.loop-i-init
@@ -12,30 +12,16 @@ pub returns-then-text-i-eq10 : goal.returns-then-text-i-eq10
 returns-then-text-i-eq10 c = run_ends is_in_line c.args.text.now _ c.loop-i.invariant (sym (no_line _ c.if-text-i-eq10.true)) refl refl (omega arith)
 
 pub returns-then-text-i-eq10-2 : goal.returns-then-text-i-eq10-2
-returns-then-text-i-eq10-2 c =
-    let one : In is_in_line c.args.text.now c.args.from (c.loop-i.i + 1) = run_on is_in_line c.args.text.now _ c.loop-i.invariant (sym (in_line _ c.if-text-i-eq10.false)) refl (omega arith) (omega arith) in
-    run_ends is_in_line c.args.text.now _ one (sym (no_line _ c.if-text-i-eq10-2.true)) refl refl (omega arith)
+returns-then-text-i-eq10-2 c = run_ends is_in_line c.args.text.now _ (past_one is_in_line c.args.text.now c.loop-i.invariant c.loop-i-test.true (in_line _ c.if-text-i-eq10.false)) (sym (no_line _ c.if-text-i-eq10-2.true)) refl refl (omega arith)
 
 pub returns-then-text-i-eq10-3 : goal.returns-then-text-i-eq10-3
-returns-then-text-i-eq10-3 c =
-    let one : In is_in_line c.args.text.now c.args.from (c.loop-i.i + 1) = run_on is_in_line c.args.text.now _ c.loop-i.invariant (sym (in_line _ c.if-text-i-eq10.false)) refl (omega arith) (omega arith) in
-    let two : In is_in_line c.args.text.now c.args.from (c.loop-i.i + 2) = run_on is_in_line c.args.text.now _ one (sym (in_line _ c.if-text-i-eq10-2.false)) refl (omega arith) (omega arith) in
-    run_ends is_in_line c.args.text.now _ two (sym (no_line _ c.if-text-i-eq10-3.true)) refl refl (omega arith)
+returns-then-text-i-eq10-3 c = run_ends is_in_line c.args.text.now _ (past_two is_in_line c.args.text.now c.loop-i.invariant c.loop-i-test.true (in_line _ c.if-text-i-eq10.false) (in_line _ c.if-text-i-eq10-2.false)) (sym (no_line _ c.if-text-i-eq10-3.true)) refl refl (omega arith)
 
 pub returns-then-text-i-eq10-4 : goal.returns-then-text-i-eq10-4
-returns-then-text-i-eq10-4 c =
-    let one : In is_in_line c.args.text.now c.args.from (c.loop-i.i + 1) = run_on is_in_line c.args.text.now _ c.loop-i.invariant (sym (in_line _ c.if-text-i-eq10.false)) refl (omega arith) (omega arith) in
-    let two : In is_in_line c.args.text.now c.args.from (c.loop-i.i + 2) = run_on is_in_line c.args.text.now _ one (sym (in_line _ c.if-text-i-eq10-2.false)) refl (omega arith) (omega arith) in
-    let three : In is_in_line c.args.text.now c.args.from (c.loop-i.i + 3) = run_on is_in_line c.args.text.now _ two (sym (in_line _ c.if-text-i-eq10-3.false)) refl (omega arith) (omega arith) in
-    run_ends is_in_line c.args.text.now _ three (sym (no_line _ c.if-text-i-eq10-4.true)) refl refl (omega arith)
+returns-then-text-i-eq10-4 c = run_ends is_in_line c.args.text.now _ (past_three is_in_line c.args.text.now c.loop-i.invariant c.loop-i-test.true (in_line _ c.if-text-i-eq10.false) (in_line _ c.if-text-i-eq10-2.false) (in_line _ c.if-text-i-eq10-3.false)) (sym (no_line _ c.if-text-i-eq10-4.true)) refl refl (omega arith)
 
 pub loop-i-preserved : goal.loop-i-preserved
-loop-i-preserved c =
-    let one : In is_in_line c.args.text.now c.args.from (c.loop-i.i + 1) = run_on is_in_line c.args.text.now _ c.loop-i.invariant (sym (in_line _ c.if-text-i-eq10.false)) refl (omega arith) (omega arith) in
-    let two : In is_in_line c.args.text.now c.args.from (c.loop-i.i + 2) = run_on is_in_line c.args.text.now _ one (sym (in_line _ c.if-text-i-eq10-2.false)) refl (omega arith) (omega arith) in
-    let three : In is_in_line c.args.text.now c.args.from (c.loop-i.i + 3) = run_on is_in_line c.args.text.now _ two (sym (in_line _ c.if-text-i-eq10-3.false)) refl (omega arith) (omega arith) in
-    let four : In is_in_line c.args.text.now c.args.from (c.loop-i.i + 4) = run_on is_in_line c.args.text.now _ three (sym (in_line _ c.if-text-i-eq10-4.false)) refl (omega arith) (omega arith) in
-    four
+loop-i-preserved c = past_four is_in_line c.args.text.now c.loop-i.invariant c.loop-i-test.true (in_line _ c.if-text-i-eq10.false) (in_line _ c.if-text-i-eq10-2.false) (in_line _ c.if-text-i-eq10-3.false) (in_line _ c.if-text-i-eq10-4.false)
 
 pub loop-i-2-init : goal.loop-i-2-init
 loop-i-2-init c = c.loop-i.invariant

@@ -2,14 +2,11 @@
 use Rattle.listing.specs.Laws.Sheets.{going_start, going_on, going_end, from_byte, from_none}
 use Rattle.listing.proofs.sheet.copy.Goals as goal
 
--- src/sheet.rt:23:5
 pub loop-i-init : goal.loop-i-init
 loop-i-init c = going_start
 
--- src/sheet.rt:23:5
 pub loop-i-preserved : goal.loop-i-preserved
 loop-i-preserved c = going_on c.loop-i.invariant c.put-next.ensures (from_byte _ _ c.loop-i-test.true) c.put-next.auto.out
 
--- src/sheet.rt:18:1
 pub returns : goal.returns
 returns c = going_end c.loop-i.invariant (from_none _ _ c.loop-i-test.false)

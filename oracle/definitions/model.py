@@ -3,12 +3,14 @@
 
 usage: python3 oracle/definitions/model.py    (writes target/oracle/model.js)
 
-Each definition that ROOTS names or reaches is read from its spec file and becomes one function. Written by hand, in
-hand.js, are the numbers, lists and booleans of the libraries, `ascii`, and `joined` of Process.antt, which names one
-term twice: there it is computed once. Types, laws and proofs are passed over.
+Each definition that ROOTS names or reaches is read from its spec file and becomes one function; where a clause matches
+on a pattern abbrev, what that stands for is matched. Written by hand, in hand.js, are the numbers, lists and booleans of
+the libraries, `ascii`, and `joined` of Process.antt, which names one term twice: there it is computed once. Types, laws
+and proofs are passed over.
 """
 
 import functools
+import itertools
 import json
 import os
 import re
@@ -28,7 +30,9 @@ LIBRARY = {"◌+◌": ("P.add", 2), "◌-◌": ("P.sub", 2), "◌*◌": ("P.mul"
            "◌^◌": ("P.pow", 2), "◌++◌": ("P.append", 2), "leb": ("P.leb", 2), "ltb": ("P.ltb", 2), "eqb": ("P.eqb", 2),
            "not": ("P.not", 1), "length": ("P.length", 1), "get_or": ("P.getOr", 3), "drop": ("P.drop", 2),
            "take": ("P.take", 2)}
-CONSTRUCTORS = ["zero", "suc", "true", "false", "[]", "◌∷◌", "pos", "negsuc"]
+CONSTRUCTORS = ["zero", "suc", "true", "false", "[]", "◌∷◌", "pos", "negsuc", "Ok", "Err", "Some", "None"]
+# What a definition's first line opens with, before its name.
+MARKS = ["pub", "pattern", "abbrev", "unfoldable"]
 # How tightly an operator binds, and whether it groups to the right.
 OPERATORS = {"||": (30, True), "&&": (40, True), "∷": (50, True), "++": (50, True), "+": (60, False), "-": (60, False),
              "*": (70, False), "/": (70, False), "%": (70, False), "^": (80, True)}
@@ -75,8 +79,9 @@ class Module:
 
     def __init__(self, crate, name):
         self.crate, self.name = crate, name
-        self.scope = {}         # name -> ("function", crate, file, name), ("constructor", name) or ("library", name)
-        self.prefixes = {}      # `kinds` of kinds.Let -> the type
+        # name -> ("function", crate, file, name), ("pattern", crate, file, name), ("constructor", name) or ("library", name)
+        self.scope = {}
+        self.prefixes = {}      # `kinds` of kinds.Let -> the path behind it
         self.operators = dict(OPERATORS)
         self.clauses = {}       # name -> the words of each clause
         path = os.path.join(ROOT, "crates", crate, "specs", name + ".antt")
@@ -88,47 +93,51 @@ class Module:
 
     def read(self, item):
         words = item.split()
-        if words[0] == "use":
-            self.read_use(" ".join(words))
-        elif words[:2] == ["pub", "data"]:
+        marks = list(itertools.takewhile(MARKS.__contains__, words))
+        rest = words[len(marks):]
+        if rest[0] == "use":
+            self.read_use(" ".join(rest))
+        elif rest[0] == "data":
             for name in re.findall(r"^\s+(\S+) :", item, re.M):
-                self.scope[name] = ("constructor", words[2] + "." + name)
-        elif words[0] == "infix":
-            self.operators[words[2].strip("◌")] = (int(words[1]), False)
-        elif words[0] in ("abbrev", "unfoldable"):
-            name = words[2] if words[1] == "pub" else words[1]
-            self.clauses[name] = []
-            self.scope[name] = ("function", self.crate, self.name, name)
-        elif words[0] in self.clauses:
-            self.clauses[words[0]].append(words_of(item))
-        elif len(words) > 1 and "◌%s◌" % words[1] in self.clauses:
-            self.clauses["◌%s◌" % words[1]].append(words_of(item))
+                self.scope[name] = ("constructor", rest[1] + "." + name)
+        elif rest[0] == "infix":
+            self.operators[rest[2].strip("◌")] = (int(rest[1]), False)
+        elif "abbrev" in marks or "unfoldable" in marks:
+            self.clauses[rest[0]] = []
+            self.scope[rest[0]] = ("pattern" if "pattern" in marks else "function", self.crate, self.name, rest[0])
+        elif rest[0] in self.clauses:
+            self.clauses[rest[0]].append(words_of(item))
+        elif len(rest) > 1 and "◌%s◌" % rest[1] in self.clauses:
+            self.clauses["◌%s◌" % rest[1]].append(words_of(item))
 
     def read_use(self, item):
-        found = re.fullmatch(r"use (\S+)\.(\S+)\.TheVariants as (\S+)", item)
+        found = re.fullmatch(r"use ([^\s{]+)(?: as (\S+))?", item)
         if found:
-            self.prefixes[found.group(3)] = found.group(2)
+            path = found.group(1).split(".")
+            self.prefixes[found.group(2) or path[-1]] = path
             return
         path, names = re.fullmatch(r"use (\S+?)\.\{(.*)\}", item).groups()
-        path = path.split(".")
-        for name in names.replace(",", " ").split():
-            if path[-1] == "TheVariants":
-                self.scope[name] = ("constructor", path[-2] + "." + name)
-            elif path[0] == "Rattle" and path[1] != "std" and path[2] == "specs" and len(path) == 4:
-                self.scope[name] = ("elsewhere", path[1], path[3], name)
-            elif name in LIBRARY:
-                self.scope[name] = ("library", name)
-            elif name in CONSTRUCTORS:
-                self.scope[name] = ("constructor", name)
+        for name in filter(None, map(str.strip, names.split(","))):
+            name, _, here = name.partition(" as ")
+            self.scope[here or name] = meant(path.split("."), name)
 
     def find(self, name):
         first, _, last = name.partition(".")
-        if last and first in self.prefixes:
-            return "constructor", self.prefixes[first] + "." + last
-        found = self.scope.get(name)
+        found = meant(self.prefixes[first], last) if last and first in self.prefixes else self.scope.get(name)
         if found and found[0] == "elsewhere":
             return module(found[1], found[2]).find(found[3])
         return found
+
+
+def meant(path, name):
+    """What a name behind this path stands for; None of a type and of what the model has no use for."""
+    if path[-1] == "TheVariants":
+        return "constructor", path[-2] + "." + name
+    if path[0] == "Rattle" and path[1] != "std" and path[2] == "specs" and path[3] != "declared":
+        return "elsewhere", path[1], "/".join(path[3:]), name
+    if name in LIBRARY:
+        return "library", name
+    return ("constructor", name) if name in CONSTRUCTORS else None
 
 
 @functools.lru_cache(maxsize=None)
@@ -139,9 +148,9 @@ def module(crate, name):
 # ---- reading a clause ----------------------------------------------------
 
 class Clause:
-    """One clause: its patterns and its body, as tuples that begin with their kind."""
+    """One clause: its patterns and its body, as tuples that begin with their kind. The body of a pattern abbrev is a pattern."""
 
-    def __init__(self, home, words, name):
+    def __init__(self, home, words, name, body):
         self.home, self.words, self.at = home, words, 0
         if name.startswith("◌"):
             self.patterns = [self.small_pattern()]
@@ -153,7 +162,7 @@ class Clause:
             while not self.sees("="):
                 self.patterns.append(self.small_pattern())
         self.take("=")
-        self.body = self.term()
+        self.body = body(self)
         if self.at < len(self.words):
             self.fail()
 
@@ -189,19 +198,23 @@ class Clause:
         if self.peek()[0] == "field":
             value += "." + self.take()[1]
         found = self.home.find(value)
+        if found and found[0] == "constructor":
+            return "constructor", found[1], []
+        if found and found[0] == "pattern":
+            return "named", found[1:], []
         # A constructor that the file doesn't import would be a variable, and fit everything.
-        if found is None and (value in CONSTRUCTORS or "." in value):
+        if value in CONSTRUCTORS or "." in value or len(value) > 1 and value[0].isupper():
             self.fail()
-        return ("constructor", found[1], []) if found and found[0] == "constructor" else ("variable", value)
+        return "variable", value
 
     def pattern(self):
         first, rest = self.small_pattern(), []
-        while not self.sees("∷", "↦", ")"):
+        while self.peek()[0] != "end" and not self.sees("∷", "↦", ")"):
             rest.append(self.small_pattern())
         if rest:
-            if first[0] != "constructor":
+            if first[0] not in ("constructor", "named"):
                 self.fail()
-            first = ("constructor", first[1], rest)
+            first = (first[0], first[1], rest)
         if self.sees("∷"):
             self.take()
             return "constructor", "◌∷◌", [first, self.pattern()]
@@ -302,11 +315,30 @@ def applied(head, arguments):
     return ("apply", head, arguments) if arguments else head
 
 
-@functools.lru_cache(maxsize=None)
-def clauses_of(definition):
+def read_clauses(definition, body):
     crate, file, name = definition
     home = module(crate, file)
-    return [Clause(home, words, name) for words in home.clauses[name]]
+    return [Clause(home, words, name, body) for words in home.clauses[name]]
+
+
+@functools.lru_cache(maxsize=None)
+def clauses_of(definition):
+    return read_clauses(definition, Clause.term)
+
+
+def spelled_out(definition, parts):
+    """The pattern that a pattern abbrev with these parts stands for."""
+    clause, = read_clauses(definition, Clause.pattern)
+    if len(clause.patterns) != len(parts):
+        clause.fail()
+    return filled(clause.body, {name: part for (_, name), part in zip(clause.patterns, parts)})
+
+
+def filled(pattern, parts):
+    """A pattern with these in place of its variables."""
+    if pattern[0] == "variable":
+        return parts[pattern[1]]
+    return pattern if pattern[0] == "number" else (*pattern[:2], [filled(inner, parts) for inner in pattern[2]])
 
 
 # ---- writing JavaScript --------------------------------------------------
@@ -443,6 +475,8 @@ class Writer:
             return []
         if pattern[0] == "number":
             return ["%s === %d" % (value, pattern[1])]
+        if pattern[0] == "named":
+            return self.fits(value, spelled_out(*pattern[1:]), bound)
         name, inner = pattern[1:]
         plain = {"true": "%s", "false": "!%s", "zero": "%s === 0", "[]": "%s === P.nil"}
         if name in plain:

@@ -3,7 +3,6 @@ use Rattle.std.specs.Prelude.{◌≡◌, refl, Bool, true, false, ◌&&◌, ℕ,
 use Rattle.std.proofs.Common.{arith, eqb-true, ltb-true}
 use Rattle.characters.specs.Text.{Text, byte_at}
 use Rattle.characters.specs.PlaceLaws.{in_text}
-use Rattle.cases.specs.declared.Case.{Case}
 use Rattle.cases.specs.declared.Case.TheVariants.{Text as Case-as-Text, End, Bad}
 use Rattle.cases.specs.declared.Size.{Size}
 use Rattle.cases.specs.Cases.{pick_case, is_kind, size_at, text_at, sized_at, opened_at, case_at}

@@ -1,6 +1,6 @@
 -- A list of cases is one text. A case is a small letter, a space, the length of its text in decimal digits and an LF, then the text and
 -- an LF. Assumes nothing.
-use Rattle.std.specs.Prelude.{◌≡◌, Bool, true, false, ◌&&◌, List, [], ◌∷◌, ℕ, ◌+◌, ◌-◌, ◌*◌, ◌<◌, leb, ltb, eqb, drop}
+use Rattle.std.specs.Prelude.{◌≡◌, Bool, true, false, ◌&&◌, [], ◌∷◌, ℕ, ◌+◌, ◌-◌, ◌*◌, ◌<◌, leb, ltb, eqb, drop}
 use Rattle.characters.specs.Text.{Text, byte_at}
 use Rattle.cases.specs.declared.Case.{Case}
 use Rattle.cases.specs.declared.Case.TheVariants.{Text as Case-as-Text, End, Bad}

@@ -11,7 +11,7 @@ ghost use Rattle.characters.specs.Text.{ByteOf, Stands};
 ghost use Rattle.cases.specs.Cases.{SizeOf, case_at, is_kind};
 
 // What stands at an offset of a list.
-#[derive(Clone, Copy)]
+#[derive(Clone, Copy, Debug, PartialEq, Eq)]
 pub enum Case {
     // A case: its text goes from `from` up to `to`, and `next` is past it.
     Text {
@@ -29,7 +29,7 @@ pub enum Case {
 }
 
 // The length that a case states, and the offset after its digits.
-#[derive(Clone, Copy)]
+#[derive(Clone, Copy, Debug, PartialEq, Eq)]
 pub struct Size {
     pub value: usize,
     pub after: usize,
@@ -50,10 +50,7 @@ fn byte(list: &[u8], at: usize) -> u32
 fn is_kind(b: u32) -> bool
     ensures { result ≡ is_kind b }
 {
-    if b < 97 {
-        return false;
-    }
-    b <= 122
+    matches!(b, 97..=122)
 }
 
 // The number at an offset. Its value stays below a thousand millions, so that no sum wraps.

@@ -1,7 +1,6 @@
 // What the programs over lists of cases write.
-use characters::place::Place;
-use characters::refusal::Refusal;
-use characters::tokens::Must;
+use characters::place::{Place, Token};
+use characters::refusal::Refused;
 
 pub fn bytes(w: &[u8]) {
     io::write_all(1, w);
@@ -15,21 +14,17 @@ pub fn place(p: Place) {
 }
 
 // A refusal as its number and its place.
-pub fn refused(refusal: Refusal, at: Place) {
-    io::print_decimal(1, refusal.number() as u64);
+pub fn refused(e: Refused) {
+    io::print_decimal(1, e.refusal.number() as u64);
     bytes(b" ");
-    place(at);
+    place(e.at);
 }
 
 // The place after what was taken, or the refusal.
-pub fn must(m: Must) {
-    match m {
-        Must::Taken { here: _, next } => {
-            place(next);
-        }
-        Must::Failed { refusal, at } => {
-            refused(refusal, at);
-        }
+pub fn taken(answer: Result<Token, Refused>) {
+    match answer {
+        Ok(token) => place(token.next),
+        Err(e) => refused(e),
     }
 }
 

@@ -1,49 +1,25 @@
 -- What the readers of names show on the way. Assumes nothing.
 use mathlib.Core.Path.{◌≡◌, refl, sym, ap, subst, ◌∙◌}
-use mathlib.Core.Bool.{Bool, true, false, ◌||◌, not}
+use mathlib.Core.Bool.{Bool, true, false, not}
 use mathlib.Core.List.{[], ◌∷◌, ◌++◌}
 use Prim.Native.Nat.{ℕ, suc, ◌+◌, ◌-◌, ◌*◌, ◌^◌, min, ◌≤◌, ◌<◌}
 use native.Mathlib.Omega.{arith}
-use lib.Dec.{eqb, leb, ltb}
+use lib.Dec.{ltb}
 use native.Mathlib.Nat.{pow-zero, pow-succ', pow-le-pow_right, mul-one, one-mul, mul_assoc}
 use lib.ListN.{length, take, drop, get_or, length-take, length-drop, get_or-eq_default}
 use lib.Seq.{take-suc, get_or-drop, get_or-take}
-use borrow.Author.Tests.{eq-eqb, ne_eqb, ltb-true, ltb-false, le-leb, lt-leb, not-true, not-false}
+use borrow.Author.Tests.{ltb-true, ltb-false, not-true, not-false}
+use Rattle.std.specs.Prelude.{Ok}
 use Rattle.characters.specs.declared.place.Place.{Place}
-use Rattle.characters.specs.declared.refusal.Refusal.{Refusal}
-use Rattle.characters.specs.declared.refusal.Refusal.TheVariants.{ExpectedIdentifier, ReservedWord}
-use Rattle.characters.specs.declared.tokens.Must.{Must}
-use Rattle.characters.specs.declared.tokens.Must.TheVariants.{Taken, Failed}
+use Rattle.characters.specs.declared.refusal.Refusal.TheVariants.{ExpectedIdentifier}
+use Rattle.characters.specs.declared.place.Token.{Token}
+use Rattle.characters.specs.Answers.{taken, failed}
 use Rattle.characters.specs.Text.{Text, byte_at, ByteOf, on_by, Stands}
 use Rattle.characters.specs.PlaceLaws.{in_text}
 use Rattle.characters.specs.Counts.{end_of}
 use Rattle.characters.specs.CountLaws.{end_inside}
-use Rattle.characters.specs.Names.{is_letter, is_name_byte, name_by, name, part, word_of, free_by, free_name, fold_of}
-use Rattle.characters.specs.NameLaws.{or_false, letter_is_name, name_byte_low, name_by_end, end_past_letter, NamedOn, name_on}
-
--- ---- which bytes are a name's
-
-pub letter_lower : (b : ℕ) → 97 ≤ b → leb b 122 ≡ is_letter b
-letter_lower b h = rw (le-leb 97 b h, lt-leb b 90 (omega arith), le-leb 65 b (omega arith), ne_eqb b 95 (λ e. omega arith)) (sym (or_false (leb b 122 || false) ∙ or_false (leb b 122)))
-
-pub letter_low : (b : ℕ) → b < 65 → false ≡ is_letter b
-letter_low b h = rw (lt-leb 97 b (omega arith), lt-leb 65 b h, ne_eqb b 95 (λ e. omega arith)) refl
-
-pub letter_upper : (b : ℕ) → 65 ≤ b → b ≤ 90 → true ≡ is_letter b
-letter_upper b h k = rw (lt-leb 97 b (omega arith), le-leb 65 b h, le-leb b 90 k) refl
-
-pub letter_between : (b : ℕ) → 90 < b → b < 97 → eqb b 95 ≡ is_letter b
-letter_between b h k = rw (lt-leb 97 b k, le-leb 65 b (omega arith), lt-leb b 90 h) refl
-
--- what is no digit is a name's byte where it is a letter
-pub no_digit : (b : ℕ) (t : Bool) → 57 < b → t ≡ is_letter b → t ≡ is_name_byte b
-no_digit b t h e = e ∙ sym (rw (le-leb 48 b (omega arith), lt-leb b 57 h) (or_false (is_letter b)))
-
-pub under_digits : (b : ℕ) → b < 48 → false ≡ is_name_byte b
-under_digits b h = rw (← letter_low b (omega arith), lt-leb 48 b h) refl
-
-pub digit_is : (b : ℕ) → 48 ≤ b → b ≤ 57 → true ≡ is_name_byte b
-digit_is b h k = rw (← letter_low b (omega arith), le-leb 48 b h, le-leb b 57 k) refl
+use Rattle.characters.specs.Names.{is_letter, is_name_byte, name_by, name, part, fold_of}
+use Rattle.characters.specs.NameLaws.{letter_is_name, name_byte_low, name_by_end, end_past_letter, NamedOn, name_on}
 
 -- ---- a name
 
@@ -64,12 +40,12 @@ name_room {s} {at} {b} {e} h f l n z =
     let k : at.column ≤ at.offset + 1 = h.columns in
     (omega arith, omega arith)
 
-pub name_ends : {s : Text} {at q : Place} {b e : ℕ} {r : Bool} → ByteOf s at.offset b → r ≡ is_letter b → not r ≡ false → e ≡ end_of is_name_byte s (at.offset + 1) → q ≡ on_by (e - at.offset) at → Taken at q ≡ name s at
+pub name_ends : {s : Text} {at q : Place} {b e : ℕ} {r : Bool} → ByteOf s at.offset b → r ≡ is_letter b → not r ≡ false → e ≡ end_of is_name_byte s (at.offset + 1) → q ≡ on_by (e - at.offset) at → taken at q ≡ name s at
 name_ends {s} {at} f l n z g =
     let h = letter_here f l n in
-    ap (Taken at) (g ∙ ap (λ (o : ℕ). on_by (o - at.offset) at) (z ∙ sym (end_past_letter s at.offset h))) ∙ sym (name_by_end s at h)
+    ap (taken at) (g ∙ ap (λ (o : ℕ). on_by (o - at.offset) at) (z ∙ sym (end_past_letter s at.offset h))) ∙ sym (name_by_end s at h)
 
-pub name_none : {s : Text} {at : Place} {b : ℕ} {r : Bool} → ByteOf s at.offset b → r ≡ is_letter b → not r ≡ true → Failed ExpectedIdentifier at ≡ name s at
+pub name_none : {s : Text} {at : Place} {b : ℕ} {r : Bool} → ByteOf s at.offset b → r ≡ is_letter b → not r ≡ true → failed ExpectedIdentifier at ≡ name s at
 unfolding name
 name_none {s} {at} e l n = ap (λ (t : Bool). name_by t (drop at.offset s) at) (sym (sym l ∙ not-true _ n) ∙ ap is_letter e.is)
 
@@ -149,31 +125,13 @@ folded {s} {from} {to} {v} {i} w h = w.is ∙ ap (λ (n : ℕ). fold_of 0 (part 
 
 -- ---- a name that is no reserved word
 
-named : {s : Text} {at h q : Place} {r : Must} → Stands s at → r ≡ name s at → r ≡ Taken h q → NamedOn s at (Taken h q)
-named {s} {at} {h} {q} {r} v e f = subst (NamedOn s at) (sym e ∙ f) (name_on s at v)
+named : {s : Text} {at : Place} {t : Token} → Stands s at → Ok t ≡ name s at → NamedOn s at (Ok t)
+named {s} {at} v e = subst (NamedOn s at) (sym e) (name_on s at v)
 
-pub name_spans : {s : Text} {at h q : Place} {r : Must} → Stands s at → r ≡ name s at → r ≡ Taken h q → (h.offset ≤ q.offset) × (q.offset ≤ length s)
-name_spans {s} {at} {h} {q} {r} v e f =
-    let n = named v e f in
-    let a : at.offset < q.offset = n.1.further in
-    let i : q.offset ≤ length s = n.1.stands.inside in
-    let z : h.offset ≡ at.offset = ap (λ (x : Place). x.offset) n.0 in
+pub name_spans : {s : Text} {at : Place} {t : Token} → Stands s at → Ok t ≡ name s at → (t.here.offset ≤ t.next.offset) × (t.next.offset ≤ length s)
+name_spans {s} {at} {t} v e =
+    let n = named v e in
+    let a : at.offset < t.next.offset = n.1.further in
+    let i : t.next.offset ≤ length s = n.1.stands.inside in
+    let z : t.here.offset ≡ at.offset = ap (λ (x : Place). x.offset) n.0 in
     (omega arith, i)
-
-pub free_fails : {s : Text} {at q : Place} {k : Refusal} {r : Must} → Stands s at → r ≡ name s at → r ≡ Failed k q → Failed k q ≡ free_name s at
-unfolding free_name
-free_fails {s} {at} {q} {k} {r} v e f = ap (free_by s) (sym f ∙ e)
-
-pub free_yes : {s : Text} {at h q : Place} {r : Must} {k : ℕ} → Stands s at → r ≡ name s at → r ≡ Taken h q → k ≡ word_of (part s h.offset q.offset) → k ≡ 0 → Taken h q ≡ free_name s at
-unfolding free_name
-free_yes {s} {at} {h} {q} {r} {k} v e f w z = go (eq-eqb (word_of (part s h.offset q.offset)) 0 (sym w ∙ z)) ∙ ap (free_by s) (sym f ∙ e)
-  where
-    go : eqb (word_of (part s h.offset q.offset)) 0 ≡ true → Taken h q ≡ free_by s (Taken h q)
-    go t = rw (t, free_by) refl
-
-pub free_no : {s : Text} {at h q : Place} {r : Must} {k : ℕ} → Stands s at → r ≡ name s at → r ≡ Taken h q → k ≡ word_of (part s h.offset q.offset) → (k ≡ 0 → ⊥) → Failed ReservedWord h ≡ free_name s at
-unfolding free_name
-free_no {s} {at} {h} {q} {r} {k} v e f w n = go (ne_eqb (word_of (part s h.offset q.offset)) 0 (λ z. n (w ∙ z))) ∙ ap (free_by s) (sym f ∙ e)
-  where
-    go : eqb (word_of (part s h.offset q.offset)) 0 ≡ false → Failed ReservedWord h ≡ free_by s (Taken h q)
-    go t = rw (t, free_by) refl

@@ -1,5 +1,5 @@
 -- What the loops over blanks keep: whatever the rest answers, the whole answers. Assumes nothing.
-use mathlib.Core.Path.{◌≡◌, refl, sym, ap, subst, subst⁻¹, ◌∙◌}
+use mathlib.Core.Path.{◌≡◌, refl, sym, ap, subst⁻¹, ◌∙◌}
 use mathlib.Core.Bool.{Bool, true, false}
 use Prim.Native.Nat.{ℕ, zero, suc, ◌+◌, ◌-◌, ◌≤◌, ◌<◌}
 use native.Mathlib.Omega.{arith}
@@ -7,10 +7,8 @@ use native.Mathlib.Numerals.{add-one}
 use lib.ListN.{length, drop}
 use borrow.Author.Tests.{eq-eqb, ne_eqb}
 use Rattle.characters.specs.declared.place.Place.{Place}
-use Rattle.characters.specs.declared.refusal.Refusal.{Refusal}
 use Rattle.characters.specs.declared.refusal.Refusal.TheVariants.{EndOfInput}
-use Rattle.characters.specs.declared.tokens.Must.{Must}
-use Rattle.characters.specs.declared.tokens.Must.TheVariants.{Taken, Failed}
+use Rattle.characters.specs.Answers.{taken, failed}
 use Rattle.characters.specs.Text.{Text, byte_at, ByteOf, on_by, line_on, past, Stands, start}
 use Rattle.characters.specs.PlaceLaws.{Advanced, Reached, reached_here, reached_on, advanced_reached, past_line, past_low, past_offset, on_by_stands}
 use Rattle.characters.specs.Counts.{end_of}
@@ -120,14 +118,14 @@ block_less {s} {at} {p} {q} {d} {b} {c} v e k f l z n =
       deep = omega arith;
     }
 
-pub block_closed : {s : Text} {at p q : Place} {d b c : ℕ} → InBlock s at p d → ByteOf s p.offset b → b ≡ 42 → ByteOf s (p.offset + 1) c → c ≡ 47 → q ≡ on_by 2 p → d ≡ 0 → Closes s at (Taken at q)
+pub block_closed : {s : Text} {at p q : Place} {d b c : ℕ} → InBlock s at p d → ByteOf s p.offset b → b ≡ 42 → ByteOf s (p.offset + 1) c → c ≡ 47 → q ≡ on_by 2 p → d ≡ 0 → Closes s at (taken at q)
 block_closed {s} {at} {p} {q} {d} {b} {c} v e k f l z n =
     let t = two v.stands f (omega arith) z in
     let t1 = t.1 in
     let w : at.offset + 2 ≤ p.offset = v.further in
     record { goes = (λ x. sym (block_out v e k f l z x) ∙ ap (λ (m : ℕ). pass_from s x (out m) q) n, record { stands = t.0.stands; further = omega arith }) }
 
-pub block_fails : {s : Text} {at p : Place} {d b : ℕ} → InBlock s at p d → ByteOf s p.offset b → b ≡ 256 → Closes s at (Failed EndOfInput p)
+pub block_fails : {s : Text} {at p : Place} {d b : ℕ} → InBlock s at p d → ByteOf s p.offset b → b ≡ 256 → Closes s at (failed EndOfInput p)
 block_fails {s} {at} {p} {d} {b} v e k = record { goes = λ x. sym (v.same x) ∙ unclosed s x p d (ended e k) }
 
 -- ---- spaces
@@ -186,18 +184,10 @@ comment_line {s} {at} {p} {q} {b} {c} v e k f l z =
       record { stands = r.stands; further = omega arith },
     )
 
-pub comment_closed : {s : Text} {at p h q : Place} {r : Must} → InBlanks s at p → Closes s p r → r ≡ Taken h q → (InBlanks s at q) × (Advanced s p q)
-comment_closed {s} {at} {p} {h} {q} {r} v c e =
-    let d : Closes s p (Taken h q) = subst (λ (x : Must). Closes s p x) e c in
-    (record { same = sym (d.goes.0 at) ∙ v.same; stands = d.goes.1.stands }, d.goes.1)
-
-pub comment_fails : {s : Text} {at p : Place} {k : Refusal} {q : Place} {r : Must} → InBlanks s at p → Closes s p r → r ≡ Failed k q → Failed k q ≡ blanks s at
-comment_fails {s} {at} {p} {k} {q} {r} v c e = let d : Closes s p (Failed k q) = subst (λ (x : Must). Closes s p x) e c in sym (d.goes at) ∙ v.same
-
-pub token_here : {s : Text} {at p : Place} {b : ℕ} → InBlanks s at p → ByteOf s p.offset b → is_blank b ≡ false → (b ≡ 47 → ⊥) → Taken at p ≡ blanks s at
+pub token_here : {s : Text} {at p : Place} {b : ℕ} → InBlanks s at p → ByteOf s p.offset b → is_blank b ≡ false → (b ≡ 47 → ⊥) → taken at p ≡ blanks s at
 token_here {s} {at} {p} {b} v e k n = sym (at_token s at p b e.is k n) ∙ v.same
 
-pub slash_here : {s : Text} {at p : Place} {b c : ℕ} → InBlanks s at p → ByteOf s p.offset b → b ≡ 47 → ByteOf s (p.offset + 1) c → (c ≡ 47 → ⊥) → (c ≡ 42 → ⊥) → Taken at p ≡ blanks s at
+pub slash_here : {s : Text} {at p : Place} {b c : ℕ} → InBlanks s at p → ByteOf s p.offset b → b ≡ 47 → ByteOf s (p.offset + 1) c → (c ≡ 47 → ⊥) → (c ≡ 42 → ⊥) → taken at p ≡ blanks s at
 slash_here {s} {at} {p} {b} {c} v e k f n m = sym (at_slash s at p (sym e.is ∙ k) (λ h. n (f.is ∙ h)) (λ h. m (f.is ∙ h))) ∙ v.same
 
 -- ---- the file form

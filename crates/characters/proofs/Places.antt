@@ -5,7 +5,7 @@ use Prim.Native.Nat.{ℕ, ◌+◌, ◌-◌, ◌≤◌, ◌<◌}
 use native.Mathlib.Omega.{arith}
 use lib.Dec.{ltb}
 use lib.ListN.{length, drop}
-use borrow.Author.Tests.{ltb-true, ltb-false, lt-leb, le-ltb, le-leb}
+use borrow.Author.Tests.{ltb-true, ltb-false}
 use Rattle.characters.specs.declared.place.Place.{Place}
 use Rattle.characters.specs.Text.{Text, ByteOf, is_tail, on_by, past, tails, next, Stands}
 use Rattle.characters.specs.PlaceLaws.{Advanced, Reached, in_text, past_offset, past_stands, tails_on, tails_end, next_end, next_in, on_by_stands}
@@ -45,17 +45,9 @@ tailing_on {s} {p₀} {p} {q} {t} v e l h z =
       stands = (stepped v.stands e (omega arith) z).stands;
     }
 
-tailed : {s : Text} {p₀ p : Place} {t : ℕ} → Tailing s p₀ p → ByteOf s p.offset t → is_tail t ≡ false → p ≡ tails (drop p₀.offset s) p₀
-tailed {s} {p₀} {p} {t} v e h = sym (tails_end s t p e.is h) ∙ v.same
-
-nexted : {s : Text} {p₀ p : Place} {b : ℕ} (at : Place) → ByteOf s at.offset b → (b ≡ 256 → ⊥) → p₀ ≡ past b at → p ≡ tails (drop p₀.offset s) p₀ → p ≡ next s at
-nexted {s} {p₀} {p} {b} at e h z w = w ∙ ap (λ (x : Place). tails (drop x.offset s) x) z ∙ sym (next_in s b at e.is (not_ended e h))
-
-pub next_low : {s : Text} {p₀ p : Place} {b t : ℕ} (at : Place) → ByteOf s at.offset b → (b ≡ 256 → ⊥) → p₀ ≡ past b at → Tailing s p₀ p → ByteOf s p.offset t → t < 128 → p ≡ next s at
-next_low {t = t} at e h z v f l = nexted at e h z (tailed v f (rw (lt-leb 128 t l)))
-
-pub next_high : {s : Text} {p₀ p : Place} {b t : ℕ} (at : Place) → ByteOf s at.offset b → (b ≡ 256 → ⊥) → p₀ ≡ past b at → Tailing s p₀ p → ByteOf s p.offset t → 192 ≤ t → p ≡ next s at
-next_high {t = t} at e h z v f l = nexted at e h z (tailed v f (rw (le-leb 128 t (omega arith), le-ltb t 192 l)))
+pub nexted : {s : Text} {p₀ p : Place} {b t : ℕ} (at : Place) → ByteOf s at.offset b → (b ≡ 256 → ⊥) → p₀ ≡ past b at → Tailing s p₀ p → ByteOf s p.offset t → is_tail t ≡ false → p ≡ next s at
+nexted {s} {p₀} {p} {b} {t} at e h z v f w =
+    sym (tails_end s t p f.is w) ∙ v.same ∙ ap (λ (x : Place). tails (drop x.offset s) x) z ∙ sym (next_in s b at e.is (not_ended e h))
 
 -- a step leaves less of the text
 pub on_less : {s : Text} {q : Place} (n : ℕ) (p : Place) → Stands s q → q ≡ on_by n p → 0 < n → length s - q.offset < length s - p.offset

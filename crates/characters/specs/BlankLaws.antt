@@ -1,5 +1,5 @@
 -- Laws of blanks: how one byte of them leads to the next, and that they end further on in the text. Assumes nothing.
-use Rattle.std.specs.Prelude.{◌≡◌, Bool, ◌&&◌, ◌||◌, not, eqb, length}
+use Rattle.std.specs.Prelude.{Ok, Err, ◌≡◌, Bool, ◌&&◌, ◌||◌, not, eqb, length}
 use Rattle.std.proofs.Math.Path.{refl, ap, subst⁻¹}
 use Rattle.std.proofs.Common.{sym, ◌∙◌, arith, add-one, sub-one, length-drop, drop-cons, drop-drop, eq-eqb, ne_eqb, eqb-true, ltb-true, ltb-false}
 use Rattle.std.proofs.Math.Bool.{true, false}
@@ -10,8 +10,7 @@ use Rattle.std.proofs.Math.ListN.{drop}
 use Rattle.std.proofs.lemmas.Bool.{eqb-false}
 use Rattle.characters.specs.declared.place.Place.{Place}
 use Rattle.characters.specs.declared.refusal.Refusal.TheVariants.{EndOfInput}
-use Rattle.characters.specs.declared.tokens.Must.{Must}
-use Rattle.characters.specs.declared.tokens.Must.TheVariants.{Taken, Failed}
+use Rattle.characters.specs.Answers.{Must, taken, failed}
 use Rattle.characters.specs.Text.{Text, byte_at, ByteOf, on_by, past, Stands}
 use Rattle.characters.specs.PlaceLaws.{Reached, Advanced, reached_here, reached_on, advanced_reached, from_byte, from_end, front, past_line, past_low, past_offset, past_line_same, past_stands, on_by_stands, on_by_none, on_by_on_by}
 use Rattle.characters.specs.Counts.{count_of, end_of}
@@ -37,7 +36,7 @@ module _ (at : Place) (b : ℕ) (l : Text) (p : Place) where
   unfolding pass
   pass_open e f g = rw (e, f, g, pass) refl
 
-  pass_token : is_blank b ≡ false → begins 47 47 b l ≡ false → begins 47 42 b l ≡ false → pass at between (b ∷ l) p ≡ Taken at p
+  pass_token : is_blank b ≡ false → begins 47 47 b l ≡ false → begins 47 42 b l ≡ false → pass at between (b ∷ l) p ≡ taken at p
   unfolding pass
   pass_token e f g = rw (e, f, g, pass) refl
 
@@ -131,11 +130,11 @@ module _ (s : Text) (at p : Place) where
           go false z = rw z
 
   -- no blank stands here
-  pub at_token : (b : ℕ) → b ≡ byte_at s p.offset → is_blank b ≡ false → (b ≡ 47 → ⊥) → pass_from s at between p ≡ Taken at p
+  pub at_token : (b : ℕ) → b ≡ byte_at s p.offset → is_blank b ≡ false → (b ≡ 47 → ⊥) → pass_from s at between p ≡ taken at p
   unfolding pass
   at_token b e z n = go (ltb p.offset (length s)) refl
     where
-      go : (t : Bool) → ltb p.offset (length s) ≡ t → pass_from s at between p ≡ Taken at p
+      go : (t : Bool) → ltb p.offset (length s) ≡ t → pass_from s at between p ≡ taken at p
       go true t =
           ap (λ (x : Text). pass at between x p) (drop-cons s p.offset 256 (ltb-true p.offset (length s) t))
           ∙ ap (λ (x : ℕ). pass at between (x ∷ drop (suc p.offset) s) p) (sym e)
@@ -143,12 +142,12 @@ module _ (s : Text) (at p : Place) where
       go false t = ap (λ (x : Text). pass at between x p) (from_end s p.offset (ltb-false p.offset (length s) t))
 
   -- a `/` that opens no comment
-  pub at_slash : byte_at s p.offset ≡ 47 → (byte_at s (p.offset + 1) ≡ 47 → ⊥) → (byte_at s (p.offset + 1) ≡ 42 → ⊥) → pass_from s at between p ≡ Taken at p
+  pub at_slash : byte_at s p.offset ≡ 47 → (byte_at s (p.offset + 1) ≡ 47 → ⊥) → (byte_at s (p.offset + 1) ≡ 42 → ⊥) → pass_from s at between p ≡ taken at p
   at_slash e n m =
       ap (λ (x : Text). pass at between x p) (from_byte s p.offset 47 (sym e) (omega arith))
       ∙ pass_token at 47 (drop (p.offset + 1) s) p refl (no_second 47 47 47 (drop (p.offset + 1) s) refl n) (no_second 47 42 47 (drop (p.offset + 1) s) refl m)
 
-  pub unclosed : (d : ℕ) → length s ≤ p.offset → pass_from s at (block d) p ≡ Failed EndOfInput p
+  pub unclosed : (d : ℕ) → length s ≤ p.offset → pass_from s at (block d) p ≡ failed EndOfInput p
   unfolding pass
   unclosed d h = ap (λ (x : Text). pass at (block d) x p) (from_end s p.offset h)
 
@@ -229,7 +228,7 @@ spaces_stands {s} {p} h =
     (on_by_stands s (spaces s p.offset) p h (omega arith)).stands
 
 -- where no blank begins past the spaces, they are all the blanks
-pub spaces_blanks : (s : Text) (p : Place) → opens_blank (byte_at s (p.offset + spaces s p.offset)) ≡ false → blanks s p ≡ Taken p (on_by (spaces s p.offset) p)
+pub spaces_blanks : (s : Text) (p : Place) → opens_blank (byte_at s (p.offset + spaces s p.offset)) ≡ false → blanks s p ≡ taken p (on_by (spaces s p.offset) p)
 unfolding blanks
 spaces_blanks s p e =
     let b : ℕ = byte_at s (p.offset + spaces s p.offset) in
@@ -245,11 +244,11 @@ spaced s p e z = z ∙ ap (λ (k : ℕ). on_by k p) e
 pub spaced_stands : {s : Text} {p q : Place} {n : ℕ} → Stands s p → n ≡ spaces s p.offset → q ≡ on_by n p → Stands s q
 spaced_stands {s} {p} h e z = subst⁻¹ (Stands s) (spaced s p e z) (spaces_stands h)
 
-pub only_spaces : {s : Text} {at q : Place} {n c : ℕ} {t : Bool} → n ≡ spaces s at.offset → q ≡ on_by n at → ByteOf s q.offset c → t ≡ opens_blank c → t ≡ false → Taken at q ≡ blanks s at
-only_spaces {s} {at} e z g f h = ap (Taken at) (spaced s at e z) ∙ sym (spaces_blanks s at (ap (λ (x : Place). opens_blank (byte_at s x.offset)) (sym (spaced s at e z)) ∙ ap opens_blank (sym g.is) ∙ sym f ∙ h))
+pub only_spaces : {s : Text} {at q : Place} {n c : ℕ} {t : Bool} → n ≡ spaces s at.offset → q ≡ on_by n at → ByteOf s q.offset c → t ≡ opens_blank c → t ≡ false → taken at q ≡ blanks s at
+only_spaces {s} {at} e z g f h = ap (taken at) (spaced s at e z) ∙ sym (spaces_blanks s at (ap (λ (x : Place). opens_blank (byte_at s x.offset)) (sym (spaced s at e z)) ∙ ap opens_blank (sym g.is) ∙ sym f ∙ h))
 
 -- where no blank begins, there are none
-pub bare : {s : Text} {q : Place} {c : ℕ} {t : Bool} → ByteOf s q.offset c → t ≡ opens_blank c → t ≡ false → Taken q q ≡ blanks s q
+pub bare : {s : Text} {q : Place} {c : ℕ} {t : Bool} → ByteOf s q.offset c → t ≡ opens_blank c → t ≡ false → taken q q ≡ blanks s q
 bare {s} {q} {c} g f h =
     let n : opens_blank (byte_at s q.offset) ≡ false = ap opens_blank (sym g.is) ∙ sym f ∙ h in
     let m = opens_none (byte_at s q.offset) n in
@@ -260,12 +259,12 @@ bare {s} {q} {c} g f h =
 
 -- the place that blanks lead to, from p on, having begun at `at`
 abbrev pub PassedOn : Text → Place → Place → Must → Type 0
-PassedOn s at p (Taken h q) = (h ≡ at) × Reached s p q
-PassedOn s at p (Failed k q) = (k ≡ EndOfInput) × Reached s p q
+PassedOn s at p (Ok t) = (t.here ≡ at) × Reached s p t.next
+PassedOn s at p (Err e) = (e.refusal ≡ EndOfInput) × Reached s p e.at
 
 passed_later : (s : Text) (at p p' : Place) → Reached s p p' → (r : Must) → PassedOn s at p' r → PassedOn s at p r
-passed_later s at p p' h (Taken a q) (e, g) = (e, reached_on h g)
-passed_later s at p p' h (Failed k q) (e, g) = (e, reached_on h g)
+passed_later s at p p' h (Ok t) (e, g) = (e, reached_on h g)
+passed_later s at p p' h (Err d) (e, g) = (e, reached_on h g)
 
 either : (P : Must → Type 0) (t : Bool) {x y : Must} → P x → P y → P (elim t as (λ b. Must) [ true ↦ x | false ↦ y ])
 either P true a b = a
@@ -393,8 +392,8 @@ line_by_stop s p {e} z h =
 
 -- what reading a comment that opens at p answers: where the blanks go on, or how they fail
 abbrev pub ClosesBy : Text → Place → Must → Type 0
-ClosesBy s p (Taken h q) = ((at : Place) → pass_from s at between p ≡ pass_from s at between q) × Advanced s p q
-ClosesBy s p (Failed k q) = (at : Place) → pass_from s at between p ≡ Failed k q
+ClosesBy s p (Ok t) = ((at : Place) → pass_from s at between p ≡ pass_from s at between t.next) × Advanced s p t.next
+ClosesBy s p (Err e) = (at : Place) → pass_from s at between p ≡ Err e
 
 pub record Closes (s : Text) (p : Place) (r : Must) : Type 0 where
   pub goes : ClosesBy s p r

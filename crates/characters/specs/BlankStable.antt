@@ -4,8 +4,7 @@ use Rattle.std.specs.Prelude.{◌≡◌, refl, Bool, true, false, ◌&&◌, [], 
 use Rattle.std.proofs.Common.{sym, ap, subst, ◌∙◌, arith, eqb-true}
 use Rattle.std.proofs.Math.Path.{subst⁻¹}
 use Rattle.characters.specs.declared.place.Place.{Place}
-use Rattle.characters.specs.declared.tokens.Must.{Must}
-use Rattle.characters.specs.declared.tokens.Must.TheVariants.{Taken}
+use Rattle.characters.specs.Answers.{Must, taken, taken_next}
 use Rattle.characters.specs.Text.{Text, byte_at, past, Stands}
 use Rattle.characters.specs.PlaceLaws.{front, past_offset, past_stands}
 use Rattle.characters.specs.Blanks.{is_blank, begins, Mode, between, line, block, passing, out, pass, blanks}
@@ -40,7 +39,7 @@ turn (passing m) b x = on m
 
 -- the blanks from that byte on
 abbrev turned : Place → ℕ → Text → Place → Turn → Must
-turned at b l p stay = Taken at p
+turned at b l p stay = taken at p
 turned at b l p (on m) = pass at m l (past b p)
 
 -- a choice of turns is a choice of what they lead to
@@ -94,7 +93,7 @@ turn_stay (passing m) b x y h e = e
 
 module _ (s t : Text) (at h q : Place) (slash : byte_at s q.offset ≡ 47 → byte_at s (q.offset + 1) ≡ byte_at t (q.offset + 1)) where
   -- no blanks end before a place in them
-  onward : (l : Text) (m : Mode) (p : Place) → Stands s p → l ≡ drop p.offset s → pass at m l p ≡ Taken h q → p.offset ≤ q.offset
+  onward : (l : Text) (m : Mode) (p : Place) → Stands s p → l ≡ drop p.offset s → pass at m l p ≡ taken h q → p.offset ≤ q.offset
   onward l m p st z e = (subst (PassedOn s at p) (ap (λ (x : Text). pass at m x p) (sym z) ∙ e) (pass_from_on s at m p st)).1.further
 
   -- where so many bytes are alike that the blanks end before the last of them
@@ -104,8 +103,8 @@ module _ (s t : Text) (at h q : Place) (slash : byte_at s q.offset ≡ 47 → by
       → r ≡ drop p.offset t
       → Alike n l r
       → q.offset < p.offset + n
-      → pass at m l p ≡ Taken h q
-      → pass at m r p ≡ Taken h q
+      → pass at m l p ≡ taken h q
+      → pass at m r p ≡ taken h q
   pass_stable l r zero m p st z w a k e = absurd (omega (arith, onward l m p st z e))
   pass_stable [] [] (suc n) m p st z w a k e = e
   pass_stable [] (c ∷ r) (suc n) m p st z w a k e = alike_none (alike_sym a)
@@ -136,11 +135,11 @@ module _ (s t : Text) (at h q : Place) (slash : byte_at s q.offset ≡ 47 → by
       leads x f = ap (λ (d : ℕ). pass at m (d ∷ r) p) (sym first) ∙ pass_turn at m b r p ∙ ap (turned at b r p) f
 
       go : (x : Turn) → turn m b (byte_at l 0) ≡ x
-          → ((x : Mode) → pass at x l (past b p) ≡ Taken h q → pass at x r (past b p) ≡ Taken h q)
-          → turned at b l p x ≡ Taken h q
-          → pass at m (c ∷ r) p ≡ Taken h q
+          → ((x : Mode) → pass at x l (past b p) ≡ taken h q → pass at x r (past b p) ≡ taken h q)
+          → turned at b l p x ≡ taken h q
+          → pass at m (c ∷ r) p ≡ taken h q
       go stay f ih e =
-          let y : p ≡ q = cc in
+          let y : p ≡ q = taken_next e in
           leads stay (turn_stay m b (byte_at l 0) (byte_at r 0) (λ g. next s b l z ∙ end y g ∙ sym (next t c r w)) f) ∙ e
       go (on x) f ih e =
           let o : (past b p).offset ≤ q.offset = onward l x (past b p) stands (after s b l z) e in
@@ -151,8 +150,8 @@ pub blanks_stable : (s t : Text) (p h q : Place)
     → Stands s p
     → AlikeIn p.offset (q.offset + 1) s t
     → (byte_at s q.offset ≡ 47 → byte_at s (q.offset + 1) ≡ byte_at t (q.offset + 1))
-    → blanks s p ≡ Taken h q
-    → blanks t p ≡ Taken h q
+    → blanks s p ≡ taken h q
+    → blanks t p ≡ taken h q
 unfolding blanks
 blanks_stable s t p h q st a slash e =
     pass_stable s t p h q slash (drop p.offset s) (drop p.offset t) (q.offset + 1 - p.offset) between p st refl refl (alike_from a) (omega arith) e

@@ -2,8 +2,7 @@
 use Rattle.std.specs.Prelude.{Bool, true, false, ◌&&◌, ◌||◌, not, [], ◌∷◌, ℕ, zero, suc, eqb, ltb, drop}
 use Rattle.characters.specs.declared.place.Place.{Place}
 use Rattle.characters.specs.declared.refusal.Refusal.TheVariants.{EndOfInput}
-use Rattle.characters.specs.declared.tokens.Must.{Must}
-use Rattle.characters.specs.declared.tokens.Must.TheVariants.{Taken, Failed}
+use Rattle.characters.specs.Answers.{Must, taken, failed}
 use Rattle.characters.specs.Text.{Text, byte_at, past, start}
 
 -- "Blank is space, tab, LF, FF, CR (not VT)"
@@ -28,25 +27,25 @@ out (suc d) = block d
 
 -- from `at` on, the place reached; an unclosed comment is refused there, at the end of the text
 unfoldable pub pass : Place → Mode → Text → Place → Must
-pass at between [] p = Taken at p
+pass at between [] p = taken at p
 pass at between (b ∷ s) p =
     elim (is_blank b) [
       | true ↦ pass at between s (past b p)
       | false ↦
           elim (begins 47 47 b s) [
             | true ↦ pass at line s (past b p)
-            | false ↦ elim (begins 47 42 b s) [ true ↦ pass at (passing (block zero)) s (past b p) | false ↦ Taken at p ]
+            | false ↦ elim (begins 47 42 b s) [ true ↦ pass at (passing (block zero)) s (past b p) | false ↦ taken at p ]
           ]
     ]
-pass at line [] p = Taken at p
+pass at line [] p = taken at p
 pass at line (b ∷ s) p = elim (eqb b 10) [ true ↦ pass at between s (past b p) | false ↦ pass at line s (past b p) ]
-pass at (block d) [] p = Failed EndOfInput p
+pass at (block d) [] p = failed EndOfInput p
 pass at (block d) (b ∷ s) p =
     elim (begins 47 42 b s) [
       | true ↦ pass at (passing (block (suc d))) s (past b p)
       | false ↦ elim (begins 42 47 b s) [ true ↦ pass at (passing (out d)) s (past b p) | false ↦ pass at (block d) s (past b p) ]
     ]
-pass at (passing m) [] p = Taken at p
+pass at (passing m) [] p = taken at p
 pass at (passing m) (b ∷ s) p = pass at m s (past b p)
 
 -- the blanks at a place: where they begin and the place after them, or 19

@@ -1,4 +1,5 @@
 pub mod Text
+pub mod Answers
 pub mod Refusals
 pub mod Utf8
 pub mod Counts

@@ -1,5 +1,5 @@
 -- Laws of names: what their bytes are, where they end, and that a keyword is a name. Assumes nothing.
-use Rattle.std.specs.Prelude.{◌≡◌, refl, Bool, true, false, ◌&&◌, ◌||◌, not, ℕ, suc, ◌+◌, ◌-◌, ◌<◌, eqb, ltb, length, take}
+use Rattle.std.specs.Prelude.{Ok, Err, ◌≡◌, refl, Bool, true, false, ◌&&◌, ◌||◌, not, ℕ, suc, ◌+◌, ◌-◌, ◌<◌, eqb, ltb, length, take}
 use Rattle.std.proofs.Common.{sym, ◌∙◌, ne_eqb, eqb-true, ltb-true, ltb-false, le-leb}
 use Rattle.std.proofs.Math.Path.{ap}
 use mathlib.Core.List.{[], ◌∷◌}
@@ -8,8 +8,7 @@ use Rattle.std.proofs.Math.ListN.{drop}
 use Rattle.std.proofs.lemmas.Bool.{lt-leb}
 use Rattle.characters.specs.declared.place.Place.{Place}
 use Rattle.characters.specs.declared.refusal.Refusal.TheVariants.{ExpectedIdentifier}
-use Rattle.characters.specs.declared.tokens.Must.{Must}
-use Rattle.characters.specs.declared.tokens.Must.TheVariants.{Taken, Failed}
+use Rattle.characters.specs.Answers.{Must, taken}
 use Rattle.characters.specs.Text.{Text, byte_at, on_by, past, Stands}
 use Rattle.characters.specs.PlaceLaws.{Reached, Advanced, reached_here, reached_on, advanced_reached, from_byte, past_low, past_offset, past_stands, on_by_none, on_by_on_by}
 use Rattle.characters.specs.Counts.{count_of, end_of}
@@ -78,11 +77,11 @@ along_count (b ∷ l) p = go (is_name_byte b) refl (along_count l (on_by 1 p))
     go false e i = along_no b l p e ∙ sym (on_by_none p) ∙ ap (λ (n : ℕ). on_by n p) (sym (count_no is_name_byte b l e))
 
 -- a name by the offset where its bytes end
-pub name_by_end : (s : Text) (p : Place) → is_letter (byte_at s p.offset) ≡ true → name s p ≡ Taken p (on_by (end_of is_name_byte s p.offset - p.offset) p)
+pub name_by_end : (s : Text) (p : Place) → is_letter (byte_at s p.offset) ≡ true → name s p ≡ taken p (on_by (end_of is_name_byte s p.offset - p.offset) p)
 unfolding name
 name_by_end s p h =
     ap (λ (t : Bool). name_by t (drop p.offset s) p) h
-    ∙ ap (Taken p) (along_count (drop p.offset s) p ∙ ap (λ (n : ℕ). on_by n p) (let z : count_of is_name_byte (drop p.offset s) ≡ end_of is_name_byte s p.offset - p.offset = omega arith in z))
+    ∙ ap (taken p) (along_count (drop p.offset s) p ∙ ap (λ (n : ℕ). on_by n p) (let z : count_of is_name_byte (drop p.offset s) ≡ end_of is_name_byte s p.offset - p.offset = omega arith in z))
 
 -- which end is looked for past its first letter
 pub end_past_letter : (s : Text) (o : ℕ) → is_letter (byte_at s o) ≡ true → end_of is_name_byte s o ≡ end_of is_name_byte s (o + 1)
@@ -115,8 +114,8 @@ module _ (s : Text) where
 
 -- where a name leads: past it, or nowhere
 abbrev pub NamedOn : Text → Place → Must → Type 0
-NamedOn s p (Taken h q) = (h ≡ p) × Advanced s p q × (part s p.offset q.offset ≡ run (drop p.offset s))
-NamedOn s p (Failed k q) = (k ≡ ExpectedIdentifier) × (q ≡ p)
+NamedOn s p (Ok t) = (t.here ≡ p) × Advanced s p t.next × (part s p.offset t.next.offset ≡ run (drop p.offset s))
+NamedOn s p (Err e) = (e.refusal ≡ ExpectedIdentifier) × (e.at ≡ p)
 
 run_yes : (b : ℕ) (l : Text) → is_name_byte b ≡ true → run (b ∷ l) ≡ b ∷ run l
 unfolding run

@@ -1,9 +1,8 @@
 -- Names and reserved words. Assumes nothing.
-use Rattle.std.specs.Prelude.{Bool, true, false, ◌&&◌, ◌||◌, List, [], ◌∷◌, ℕ, suc, ◌+◌, ◌-◌, ◌*◌, leb, eqb, take, drop}
+use Rattle.std.specs.Prelude.{Ok, Err, Bool, true, false, ◌&&◌, ◌||◌, List, [], ◌∷◌, ℕ, suc, ◌+◌, ◌-◌, ◌*◌, leb, eqb, take, drop}
 use Rattle.characters.specs.declared.place.Place.{Place}
 use Rattle.characters.specs.declared.refusal.Refusal.TheVariants.{ExpectedIdentifier, ReservedWord}
-use Rattle.characters.specs.declared.tokens.Must.{Must}
-use Rattle.characters.specs.declared.tokens.Must.TheVariants.{Taken, Failed}
+use Rattle.characters.specs.Answers.{Must, taken, failed}
 use Rattle.characters.specs.Text.{Text, byte_at, ascii, past}
 
 abbrev pub is_digit : ℕ → Bool
@@ -32,8 +31,8 @@ run [] = []
 run (b ∷ s) = elim (is_name_byte b) [ true ↦ b ∷ run s | false ↦ [] ]
 
 abbrev pub name_by : Bool → Text → Place → Must
-name_by true s p = Taken p (along s p)
-name_by false s p = Failed ExpectedIdentifier p
+name_by true s p = taken p (along s p)
+name_by false s p = failed ExpectedIdentifier p
 
 -- the name at a place, with no blanks before it, or 11
 unfoldable pub name : Text → Place → Must
@@ -93,8 +92,8 @@ unfoldable pub word_of : Text → ℕ
 word_of n = numbered 1 reserved n
 
 abbrev pub free_by : Text → Must → Must
-free_by s (Taken p q) = elim (eqb (word_of (part s p.offset q.offset)) 0) [ true ↦ Taken p q | false ↦ Failed ReservedWord p ]
-free_by s (Failed k q) = Failed k q
+free_by s (Ok t) = elim (eqb (word_of (part s t.here.offset t.next.offset)) 0) [ true ↦ Ok t | false ↦ failed ReservedWord t.here ]
+free_by s (Err e) = Err e
 
 -- the name at a place where reserved words are barred: 12 at the name's start
 unfoldable pub free_name : Text → Place → Must

@@ -1,12 +1,9 @@
 -- Laws of tokens: where they lead. Assumes nothing.
-use Rattle.std.specs.Prelude.{◌≡◌, refl, Bool, true, false, ◌&&◌, not, [], ◌∷◌, ℕ, ◌+◌, ◌≤◌, ◌<◌, eqb, ltb, length, drop}
+use Rattle.std.specs.Prelude.{Ok, Err, ◌≡◌, refl, Bool, true, false, ◌&&◌, not, [], ◌∷◌, ℕ, ◌+◌, ◌≤◌, ◌<◌, eqb, ltb, length, drop}
 use Rattle.std.proofs.Common.{sym, ap, ◌∙◌, arith, length-drop, drop-cons, ne_eqb, ltb-true, ltb-false}
 use Rattle.characters.specs.declared.place.Place.{Place}
 use Rattle.characters.specs.declared.refusal.Refusal.TheVariants.{EndOfInput}
-use Rattle.characters.specs.declared.tokens.Look.{Look}
-use Rattle.characters.specs.declared.tokens.Look.TheVariants.{Found, Missing, Halted}
-use Rattle.characters.specs.declared.tokens.Must.{Must}
-use Rattle.characters.specs.declared.tokens.Must.TheVariants.{Taken, Failed}
+use Rattle.characters.specs.Answers.{Must, Looked, taken, found, missing}
 use Rattle.characters.specs.Text.{Text, byte_at, on_by, Stands}
 use Rattle.characters.specs.PlaceLaws.{Reached, at_end, from_end, on_by_stands}
 use Rattle.characters.specs.Blanks.{blanks}
@@ -25,10 +22,10 @@ spells_fits (x ∷ w) (b ∷ t) e = let h = spells_fits w t (right (eqb x b) (sp
     right false v e = let z : ◌≡◌ {A = ℕ} 0 1 = cc in absurd (omega arith)
 
 -- where a token leads: to the place past the blanks, and over the token
-abbrev pub TokenOn : Text → Place → Text → Look → Type 0
-TokenOn s p w (Found h n) = Reached s p h × Reached s h n × (n ≡ on_by (length w) h)
-TokenOn s p w (Missing h) = Reached s p h
-TokenOn s p w (Halted k q) = k ≡ EndOfInput
+abbrev pub TokenOn : Text → Place → Text → Looked → Type 0
+TokenOn s p w (found h n) = Reached s p h × Reached s h n × (n ≡ on_by (length w) h)
+TokenOn s p w (missing h) = Reached s p h
+TokenOn s p w (Err e) = e.refusal ≡ EndOfInput
 
 found_on : (s : Text) (p q : Place) (w : Text) (t : Bool) → Reached s p q → (t ≡ true → is_token s q w ≡ true) → TokenOn s p w (found_by t (length w) q)
 found_on s p q w true h f =
@@ -43,8 +40,8 @@ unfolding token
 token_on s p w h = go (blanks s p) (blanks_on s p h)
   where
     go : (r : Must) → PassedOn s p p r → TokenOn s p w (token_past s w r)
-    go (Taken a q) g = found_on s p q w (is_token s q w) g.1 (λ e. e)
-    go (Failed k q) g = g.0
+    go (Ok t) g = found_on s p t.next w (is_token s t.next w) g.1 (λ e. e)
+    go (Err e) g = g.0
 
 pub keyword_on : (s : Text) (p : Place) (w : Text) → Stands s p → TokenOn s p w (keyword s p w)
 unfolding keyword
@@ -55,8 +52,8 @@ keyword_on s p w h = go (blanks s p) (blanks_on s p h)
     left false v e = e
 
     go : (r : Must) → PassedOn s p p r → TokenOn s p w (keyword_past s w r)
-    go (Taken a q) g = found_on s p q w (is_keyword s q w) g.1 (left (is_token s q w) (not (is_name_byte (byte_at s (q.offset + length w)))))
-    go (Failed k q) g = g.0
+    go (Ok t) g = found_on s p t.next w (is_keyword s t.next w) g.1 (left (is_token s t.next w) (not (is_name_byte (byte_at s (t.next.offset + length w)))))
+    go (Err e) g = g.0
 
 -- ---- tokens of one byte
 
@@ -76,6 +73,6 @@ spells_one s o b h = go (ltb o (length s)) refl
         let n : byte_at s o ≡ 256 = at_end s o z in
         ap (spells (b ∷ [])) (from_end s o z) ∙ sym (ne_eqb b (byte_at s o) (λ k. omega arith))
 
-pub sign_token : (s : Text) (at : Place) {h q : Place} {b : ℕ} → b < 256 → Taken h q ≡ blanks s at → token s at (b ∷ []) ≡ found_by (eqb b (byte_at s q.offset)) 1 q
+pub sign_token : (s : Text) (at : Place) {h q : Place} {b : ℕ} → b < 256 → taken h q ≡ blanks s at → token s at (b ∷ []) ≡ found_by (eqb b (byte_at s q.offset)) 1 q
 unfolding token
 sign_token s at {h} {q} {b} l e = ap (token_past s (b ∷ [])) (sym e) ∙ ap (λ (u : Bool). found_by u 1 q) (spells_one s q.offset b l)

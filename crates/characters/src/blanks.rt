@@ -5,12 +5,11 @@ ghost use Rattle.characters.specs.Counts.{end_of};
 ghost use Rattle.characters.specs.Blanks.{blanks, file_start, is_in_line, line_end, opens_blank, spaces};
 ghost use Rattle.characters.specs.BlankLaws.{Closes};
 
-use crate::place::{Place, byte};
-use crate::refusal::Refusal;
-use crate::tokens::Must;
+use crate::place::{Place, Token, byte};
+use crate::refusal::{Refusal, Refused};
 
 // Past the blanks at `at`, or 19 where a comment does not end.
-pub fn skip(text: &[u8], at: Place) -> Must
+pub fn skip(text: &[u8], at: Place) -> Result<Token, Refused>
     requires { Stands text.now at }
     ensures { result ≡ blanks text.now at }
 {
@@ -25,40 +24,26 @@ pub fn skip(text: &[u8], at: Place) -> Must
             10 => {
                 p = p.line_on();
             }
-            9 => {
-                p = p.on(1);
-            }
-            12 => {
-                p = p.on(1);
-            }
-            13 => {
+            9 | 12 | 13 => {
                 p = p.on(1);
             }
             47 => {
-                let after = p.offset + 1;
-                let c = byte(text, after);
+                let c = byte(text, p.offset + 1);
                 match c {
                     47 => {
                         p = line_end(text, p);
                     }
                     42 => {
-                        let closed = block_end(text, p);
-                        match closed {
-                            Must::Taken { here: _, next } => {
-                                p = next;
-                            }
-                            Must::Failed { refusal, at: q } => {
-                                return Must::Failed { refusal, at: q };
-                            }
-                        }
+                        let comment = block_end(text, p)?;
+                        p = comment.next;
                     }
                     _ => {
-                        return Must::Taken { here: at, next: p };
+                        return Ok(Token { here: at, next: p });
                     }
                 }
             }
             _ => {
-                return Must::Taken { here: at, next: p };
+                return Ok(Token { here: at, next: p });
             }
         }
     }
@@ -80,10 +65,7 @@ pub fn spaces(text: &[u8], from: u32) -> u32
 pub fn opens_blank(b: u32) -> bool
     ensures { result ≡ opens_blank b }
 {
-    if b < 33 {
-        return true;
-    }
-    b == 47
+    b < 33 || b == 47
 }
 
 // Where the line from `from` on stops: at its LF, or at the end of the text. Four bytes a turn.
@@ -108,13 +90,12 @@ fn line_stop(text: &[u8], from: usize) -> usize
         }
         i += 4;
     }
-    while i < n {
-        if text[i] == 10 {
-            return i;
+    for j in i..n {
+        if text[j] == 10 {
+            return j;
         }
-        i += 1;
     }
-    i
+    n
 }
 
 // Past the last line, which no LF ends, so that its columns count.
@@ -142,18 +123,15 @@ pub fn line_end(text: &[u8], at: Place) -> Place
     if text.len() <= stop {
         return last_line(text, at);
     }
-    let end = stop as u32;
-    let offset = end + 1;
-    let line = at.line + 1;
     Place {
-        offset,
-        line,
+        offset: stop as u32 + 1,
+        line: at.line + 1,
         column: 1,
     }
 }
 
 // Past the comment that opens at `at`, whose inner comments nest.
-fn block_end(text: &[u8], at: Place) -> Must
+fn block_end(text: &[u8], at: Place) -> Result<Token, Refused>
     requires { (Stands text.now at) × (byte_at text.now at.offset ≡ 47) × (byte_at text.now (at.offset + 1) ≡ 42) }
     ensures { Closes text.now at result }
 {
@@ -163,15 +141,13 @@ fn block_end(text: &[u8], at: Place) -> Must
         let b = byte(text, p.offset);
         match b {
             256 => {
-                return Must::Failed {
+                return Err(Refused {
                     refusal: Refusal::EndOfInput,
                     at: p,
-                };
+                });
             }
             47 => {
-                let after = p.offset + 1;
-                let c = byte(text, after);
-                if c == 42 {
+                if byte(text, p.offset + 1) == 42 {
                     depth += 1;
                     p = p.on(2);
                 } else {
@@ -179,12 +155,10 @@ fn block_end(text: &[u8], at: Place) -> Must
                 }
             }
             42 => {
-                let after = p.offset + 1;
-                let c = byte(text, after);
-                if c == 47 {
+                if byte(text, p.offset + 1) == 47 {
                     p = p.on(2);
                     if depth == 0 {
-                        return Must::Taken { here: at, next: p };
+                        return Ok(Token { here: at, next: p });
                     }
                     depth -= 1;
                 } else {

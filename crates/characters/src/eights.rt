@@ -53,11 +53,10 @@ pub fn ascii_end(text: &[u8], from: usize) -> usize
         }
         i += 8;
     }
-    while i < n {
-        if 0x80 <= text[i] {
-            return i;
+    for j in i..n {
+        if 0x80 <= text[j] {
+            return j;
         }
-        i += 1;
     }
-    i
+    n
 }

@@ -5,56 +5,31 @@ ghost use Rattle.characters.specs.Counts.{end_of};
 ghost use Rattle.characters.specs.Words.{heads, rests, slots};
 ghost use Rattle.characters.specs.Names.{fold_of, free_name, is_letter, is_name_byte, is_small, name, part, word_of};
 
-use crate::place::{Place, byte};
-use crate::refusal::Refusal;
-use crate::tokens::Must;
+use crate::place::{Place, Token, byte};
+use crate::refusal::{Refusal, Refused};
 
-// A letter or `_`.
+// A letter or `_`. Small letters first, as most are.
 pub fn is_letter(b: u32) -> bool
     ensures { result ≡ is_letter b }
 {
     if 97 <= b {
         return b <= 122;
     }
-    if b < 65 {
-        return false;
-    }
-    if b <= 90 {
-        return true;
-    }
-    b == 95
+    matches!(b, 65..=90) || b == 95
 }
 
 // A letter, digit or `_`.
 pub fn is_name_byte(b: u32) -> bool
     ensures { result ≡ is_name_byte b }
 {
-    if 97 <= b {
-        return b <= 122;
-    }
-    if b < 48 {
-        return false;
-    }
-    if b <= 57 {
-        return true;
-    }
-    if b < 65 {
-        return false;
-    }
-    if b <= 90 {
-        return true;
-    }
-    b == 95
+    matches!(b, 48..=57 | 65..=90 | 97..=122) || b == 95
 }
 
 // A small letter.
 pub fn is_small(b: u8) -> bool
     ensures { result ≡ is_small b }
 {
-    if b < 97 {
-        return false;
-    }
-    b <= 122
+    b.is_ascii_lowercase()
 }
 
 // Where the bytes of a name from `from` on end. Small letters first, by one test of a range; and small enough to be put into `name`'s callers.
@@ -62,60 +37,47 @@ pub fn name_end(text: &[u8], from: u32) -> u32
     requires { (from ≤ length text.now) × (length text.now < 2 ^ 31) }
     ensures { result ≡ end_of is_name_byte text.now from }
 {
-    let n = text.len();
-    let mut i = from as usize;
-    while i < n {
+    for i in from as usize..text.len() {
         let b = text[i];
-        if !is_small(b) {
-            let c = b as u32;
-            if !is_name_byte(c) {
-                return i as u32;
-            }
+        if !is_small(b) && !is_name_byte(b as u32) {
+            return i as u32;
         }
-        i += 1;
     }
-    i as u32
+    text.len() as u32
 }
 
 // The name at `at`, with no blanks before it, or 11.
-pub fn name(text: &[u8], at: Place) -> Must
+pub fn name(text: &[u8], at: Place) -> Result<Token, Refused>
     requires { Stands text.now at }
     ensures { result ≡ name text.now at }
 {
     let b = byte(text, at.offset);
     if !is_letter(b) {
-        return Must::Failed {
+        return Err(Refused {
             refusal: Refusal::ExpectedIdentifier,
             at,
-        };
+        });
     }
-    let after = at.offset + 1;
-    let end = name_end(text, after);
-    let n = end - at.offset;
-    let next = at.on(n);
-    Must::Taken { here: at, next }
+    let end = name_end(text, at.offset + 1);
+    let next = at.on(end - at.offset);
+    Ok(Token { here: at, next })
 }
 
 // The name at `at`, or 11, or 12 where it is a reserved word.
-pub fn free_name(text: &[u8], at: Place) -> Must
+#[tactic(auto, unfolding(crate::specs::Names::free_name))]
+pub fn free_name(text: &[u8], at: Place) -> Result<Token, Refused>
     requires { Stands text.now at }
     ensures { result ≡ free_name text.now at }
 {
-    let read = name(text, at);
-    match read {
-        Must::Failed { refusal, at: q } => Must::Failed { refusal, at: q },
-        Must::Taken { here, next } => {
-            let k = word(text, here.offset, next.offset);
-            if k == 0 {
-                Must::Taken { here, next }
-            } else {
-                Must::Failed {
-                    refusal: Refusal::ReservedWord,
-                    at: here,
-                }
-            }
-        }
+    let read = name(text, at)?;
+    let k = word(text, read.here.offset, read.next.offset);
+    if k != 0 {
+        return Err(Refused {
+            refusal: Refusal::ReservedWord,
+            at: read.here,
+        });
     }
+    Ok(read)
 }
 
 // The number of the reserved word from `from` to `to`, or 0: one look at the slot that it could be in.
@@ -265,11 +227,8 @@ fn fold(text: &[u8], from: u32, to: u32) -> u64
     ensures { result ≡ fold_of 0 (part text.now from to) }
 {
     let mut v: u64 = 0;
-    let mut i = from;
-    while i < to {
-        let b = byte(text, i);
-        v = v * 256 + (b as u64);
-        i += 1;
+    for i in from..to {
+        v = v * 256 + byte(text, i) as u64;
     }
     v
 }

@@ -1,9 +1,9 @@
-// Places in a text, by value, the steps from one to the next, and spans.
+// Places in a text, by value, the steps from one to the next, spans and tokens.
 ghost use Rattle.std.specs.Prelude.{◌≡◌, ◌+◌, ◌<◌, ◌≤◌, ◌^◌};
 ghost use Rattle.characters.specs.Text.{ByteOf, Stands, line_on, next, on_by, past, start};
 
 // A place: the bytes before it, and its line and column, which count characters from 1.
-#[derive(Clone, Copy)]
+#[derive(Clone, Copy, Debug, PartialEq, Eq)]
 pub struct Place {
     pub offset: u32,
     pub line: u32,
@@ -11,10 +11,17 @@ pub struct Place {
 }
 
 // A span of a text: the offset of its first byte, and the offset after its last.
-#[derive(Clone, Copy)]
+#[derive(Clone, Copy, Debug, PartialEq, Eq)]
 pub struct Span {
     pub from: u32,
     pub to: u32,
+}
+
+// What was taken: where it begins, past the blanks, and the place after it.
+#[derive(Clone, Copy, Debug, PartialEq, Eq)]
+pub struct Token {
+    pub here: Place,
+    pub next: Place,
 }
 
 impl Place {
@@ -34,12 +41,10 @@ impl Place {
         requires { (self.offset + n < 2 ^ 32) × (self.column + n < 2 ^ 32) }
         ensures { result ≡ on_by n self }
     {
-        let offset = self.offset + n;
-        let column = self.column + n;
         Self {
-            offset,
+            offset: self.offset + n,
             line: self.line,
-            column,
+            column: self.column + n,
         }
     }
 
@@ -48,35 +53,27 @@ impl Place {
         requires { (self.offset + 1 < 2 ^ 32) × (self.line + 1 < 2 ^ 32) }
         ensures { result ≡ line_on self }
     {
-        let offset = self.offset + 1;
-        let line = self.line + 1;
         Self {
-            offset,
-            line,
+            offset: self.offset + 1,
+            line: self.line + 1,
             column: 1,
         }
     }
 
     // After the byte `b`, whichever it is.
+    #[tactic(auto, unfolding(crate::specs::Text::past))]
     pub fn past(self, b: u32) -> Self
         requires { (self.offset + 1 < 2 ^ 32) × (self.line + 1 < 2 ^ 32) × (self.column + 1 < 2 ^ 32) }
         ensures { result ≡ past b self }
     {
-        if b == 10 {
-            return self.line_on();
+        match b {
+            10 => self.line_on(),
+            128..=191 => Self {
+                offset: self.offset + 1,
+                ..self
+            },
+            _ => self.on(1),
         }
-        if b < 128 {
-            return self.on(1);
-        }
-        if b < 192 {
-            let offset = self.offset + 1;
-            return Self {
-                offset,
-                line: self.line,
-                column: self.column,
-            };
-        }
-        self.on(1)
     }
 
     // After the character that stands here; past the end only the column moves.
@@ -86,20 +83,15 @@ impl Place {
     {
         let b = byte(text, self.offset);
         if b == 256 {
-            let column = self.column + 1;
             return Self {
-                offset: self.offset,
-                line: self.line,
-                column,
+                column: self.column + 1,
+                ..self
             };
         }
         let mut p = self.past(b);
         loop {
             let t = byte(text, p.offset);
-            if t < 128 {
-                return p;
-            }
-            if 192 <= t {
+            if !matches!(t, 128..=191) {
                 return p;
             }
             p = p.past(t);

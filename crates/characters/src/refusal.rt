@@ -2,38 +2,47 @@
 ghost use Rattle.std.specs.Prelude.{◌≡◌};
 ghost use Rattle.characters.specs.Refusals.{number_of};
 
-#[derive(Clone, Copy)]
+use crate::place::Place;
+
+#[derive(Clone, Copy, Debug, PartialEq, Eq)]
 pub enum Refusal {
-    TooLong,
-    BadNesting,
-    NotUtf8,
-    LeadingFrom,
-    TooDeep,
-    PoolFull,
-    TooManyComparisons,
-    ExpectedToken,
-    ExpectedIdentifier,
-    ReservedWord,
-    UnknownAtom,
-    OutsideInt64,
-    IntegerTooLarge,
-    ExpectedDigit,
-    MisplacedSeparator,
-    NoExponentDigits,
-    EndOfInput,
-    BadStringEscape,
-    BadByteArray,
-    PostfixIncrement,
-    IncrementAsExpression,
-    UnaryPlus,
-    AssignmentAsExpression,
-    InvalidTarget,
-    NotACall,
-    DeclarationAsBody,
-    ExtraSemicolon,
-    Duplicate,
-    TooManyArguments,
-    InitWithoutParameter,
+    TooLong = 1,
+    BadNesting = 2,
+    NotUtf8 = 3,
+    LeadingFrom = 4,
+    TooDeep = 5,
+    PoolFull = 6,
+    TooManyComparisons = 7,
+    ExpectedToken = 10,
+    ExpectedIdentifier = 11,
+    ReservedWord = 12,
+    UnknownAtom = 13,
+    OutsideInt64 = 14,
+    IntegerTooLarge = 15,
+    ExpectedDigit = 16,
+    MisplacedSeparator = 17,
+    NoExponentDigits = 18,
+    EndOfInput = 19,
+    BadStringEscape = 20,
+    BadByteArray = 21,
+    PostfixIncrement = 22,
+    IncrementAsExpression = 23,
+    UnaryPlus = 24,
+    AssignmentAsExpression = 25,
+    InvalidTarget = 26,
+    NotACall = 27,
+    DeclarationAsBody = 28,
+    ExtraSemicolon = 29,
+    Duplicate = 30,
+    TooManyArguments = 31,
+    InitWithoutParameter = 32,
+}
+
+// A refusal and its place.
+#[derive(Clone, Copy, Debug, PartialEq, Eq)]
+pub struct Refused {
+    pub refusal: Refusal,
+    pub at: Place,
 }
 
 impl Refusal {
@@ -41,37 +50,6 @@ impl Refusal {
     pub fn number(self) -> u32
         ensures { result ≡ number_of self }
     {
-        match self {
-            Refusal::TooLong => 1,
-            Refusal::BadNesting => 2,
-            Refusal::NotUtf8 => 3,
-            Refusal::LeadingFrom => 4,
-            Refusal::TooDeep => 5,
-            Refusal::PoolFull => 6,
-            Refusal::TooManyComparisons => 7,
-            Refusal::ExpectedToken => 10,
-            Refusal::ExpectedIdentifier => 11,
-            Refusal::ReservedWord => 12,
-            Refusal::UnknownAtom => 13,
-            Refusal::OutsideInt64 => 14,
-            Refusal::IntegerTooLarge => 15,
-            Refusal::ExpectedDigit => 16,
-            Refusal::MisplacedSeparator => 17,
-            Refusal::NoExponentDigits => 18,
-            Refusal::EndOfInput => 19,
-            Refusal::BadStringEscape => 20,
-            Refusal::BadByteArray => 21,
-            Refusal::PostfixIncrement => 22,
-            Refusal::IncrementAsExpression => 23,
-            Refusal::UnaryPlus => 24,
-            Refusal::AssignmentAsExpression => 25,
-            Refusal::InvalidTarget => 26,
-            Refusal::NotACall => 27,
-            Refusal::DeclarationAsBody => 28,
-            Refusal::ExtraSemicolon => 29,
-            Refusal::Duplicate => 30,
-            Refusal::TooManyArguments => 31,
-            Refusal::InitWithoutParameter => 32,
-        }
+        self as u32
     }
 }

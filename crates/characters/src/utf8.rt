@@ -33,10 +33,7 @@ fn opened(b: u8) -> Lead
 fn in_range(b: u8, low: u8, high: u8) -> bool
     ensures { result ≡ inside (low to high) b }
 {
-    if b < low {
-        return false;
-    }
-    b <= high
+    (low..=high).contains(&b)
 }
 
 // The width that a lead at `at` announces, or 0 where the bytes after it are not what it asks for.
@@ -112,10 +109,8 @@ pub fn prefix_place(text: &[u8]) -> Place
 {
     let end = prefix(text);
     let mut p = Place::start();
-    let mut at: usize = 0;
-    while at < end {
+    for at in 0..end {
         p = p.past(text[at] as u32);
-        at += 1;
     }
     p
 }

@@ -7,6 +7,7 @@ ghost use Rattle.std.specs.Prelude.{◌<◌, ◌^◌, length};
 
 use cases::{Case, say};
 use characters::place::Place;
+use characters::refusal::Refused;
 use characters::tokens::Look;
 use characters::{blanks, names, tokens, utf8};
 
@@ -56,13 +57,13 @@ fn answer(kind: u8, text: &[u8])
 {
     match kind {
         b'b' => {
-            say::must(blanks::skip(text, cases::start_of(text)));
+            say::taken(blanks::skip(text, cases::start_of(text)));
         }
         b'n' => {
-            say::must(names::free_name(text, cases::start_of(text)));
+            say::taken(names::free_name(text, cases::start_of(text)));
         }
         b'm' => {
-            say::must(names::name(text, cases::start_of(text)));
+            say::taken(names::name(text, cases::start_of(text)));
         }
         b'k' => {
             say_look(tokens::keyword(text, cases::start_of(text), b"break"));
@@ -114,20 +115,18 @@ fn say_utf8(well: bool, p: Place) {
     say::place(p);
 }
 
-fn say_look(l: Look) {
-    match l {
-        Look::Found { here, next } => {
+fn say_look(answer: Result<Look, Refused>) {
+    match answer {
+        Ok(Look::Found { here, next }) => {
             say::bytes(b"found ");
             say::place(here);
             say::bytes(b" ");
             say::place(next);
         }
-        Look::Missing { here } => {
+        Ok(Look::Missing { here }) => {
             say::bytes(b"missing ");
             say::place(here);
         }
-        Look::Halted { refusal, at } => {
-            say::refused(refusal, at);
-        }
+        Err(e) => say::refused(e),
     }
 }

@@ -1,68 +1,63 @@
 -- Laws of atoms: the parts of their definition that the readers are held to, where an atom leads, and that its record refers to none.
 -- Assumes nothing.
-use Rattle.std.specs.Prelude.{◌≡◌, refl, Bool, true, false, ◌&&◌, List, ℕ, ◌+◌, ◌≤◌, ◌<◌, T, eqb}
+use Rattle.std.specs.Prelude.{◌≡◌, refl, Bool, true, false, ◌&&◌, List, ℕ, ◌+◌, ◌≤◌, ◌<◌, T, eqb, Err, Ok, Result}
 use Rattle.std.proofs.Common.{sym, ap, subst, ◌∙◌, arith, eqb-true, ne_eqb}
 use Rattle.std.proofs.Math.Path.{subst⁻¹}
 use Rattle.characters.specs.declared.place.Place.{Place}
 use Rattle.characters.specs.declared.refusal.Refusal.TheVariants.{UnknownAtom}
-use Rattle.characters.specs.declared.tokens.Must.{Must}
-use Rattle.characters.specs.declared.tokens.Must.TheVariants.{Taken, Failed}
+use Rattle.characters.specs.declared.refusal.Refused.{Refused}
+use Rattle.characters.specs.Answers.{Must, failed}
 use Rattle.characters.specs.Text.{Text, byte_at, on_by, Stands}
 use Rattle.characters.specs.PlaceLaws.{Reached, Advanced, reached_here, advanced_on, advanced_reached}
 use Rattle.characters.specs.Names.{is_digit, is_letter, name, part, word_of}
 use Rattle.characters.specs.NameLaws.{NamedOn, name_on}
+use Rattle.literals.specs.declared.numbers.Numeral.TheVariants.{Int, Float}
 use Rattle.literals.specs.declared.numbers.Numeral.{Numeral}
-use Rattle.literals.specs.declared.numbers.Numeral.TheVariants.{Int, Float, Bad}
 use Rattle.literals.specs.Numbers.{number}
 use Rattle.literals.specs.NumberLaws.{NumeralOn, number_on, choice, over_byte, over_two}
 use Rattle.literals.specs.Strings.{is_quote, string}
 use Rattle.literals.specs.SpellingLaws.{string_accepted}
 use Rattle.literals.specs.ByteArrays.{bytearray}
 use Rattle.literals.specs.ByteArrayLaws.{bytearray_accepted}
+use Rattle.reading.specs.Events.{Rec}
 use Rattle.records.specs.declared.kind.Kind.{Kind}
 use Rattle.records.specs.declared.kind.Kind.TheVariants as kinds
-use Rattle.reading.specs.Events.{Rec}
 use Rattle.records.specs.Kinds.{expression, number_of}
 use Rattle.records.specs.Rows.{record_of}
 use Rattle.records.specs.Nodes.{is_leaf}
 use Rattle.records.specs.Meanings.{is_a, Meant}
+use Rattle.grammar.specs.declared.leaves.Atom.TheVariants.{Leaf, Paren, Bracket, Brace, Bar}
 use Rattle.grammar.specs.declared.leaves.Atom.{Atom}
-use Rattle.grammar.specs.declared.leaves.Atom.TheVariants.{Leaf, Paren, Bracket, Brace, Bar, Wrong}
 use Rattle.grammar.specs.Leaves.{leaf_row, number_atom, span_atom, word_atom, name_atom, atom_by, atom_of}
 
 -- ---- the parts of the definition
 
--- what is read ends where a span can: "text is at most 65,535 bytes"
-abbrev pub Near : Must → Type 0
-Near (Taken h q) = q.offset ≤ 65535
-Near (Failed k q) = Unit {0}
-
-abbrev pub string_atom : Text → Place → Atom
+abbrev pub string_atom : Text → Place → Result Atom Refused
 string_atom s h = span_atom kinds.String h.offset (string s h)
 
-abbrev pub host_atom : Text → Place → Atom
+abbrev pub host_atom : Text → Place → Result Atom Refused
 host_atom s h = span_atom kinds.Host (h.offset + 1) (name s (on_by 1 h))
 
 -- a `#` stands here
-abbrev pub hash_atom : Text → Place → Atom
+abbrev pub hash_atom : Text → Place → Result Atom Refused
 hash_atom s h =
     elim (eqb (byte_at s (h.offset + 1)) 91) [
       | true ↦ span_atom kinds.Bytes h.offset (bytearray s (on_by 2 h))
-      | false ↦ Wrong UnknownAtom h
+      | false ↦ failed UnknownAtom h
     ]
 
 -- a byte that is no digit, letter or quote stands here
-abbrev pub sign_atom : Text → ℕ → Place → Atom
+abbrev pub sign_atom : Text → ℕ → Place → Result Atom Refused
 sign_atom s b h =
     elim (eqb b 40) [
-      | true ↦ Paren (on_by 1 h)
+      | true ↦ Ok (Paren (on_by 1 h))
       | false ↦ elim (eqb b 91) [
-        | true ↦ Bracket (on_by 1 h)
+        | true ↦ Ok (Bracket (on_by 1 h))
         | false ↦ elim (eqb b 123) [
-          | true ↦ Brace (on_by 1 h)
+          | true ↦ Ok (Brace (on_by 1 h))
           | false ↦ elim (eqb b 35) [
             | true ↦ hash_atom s h
-            | false ↦ elim (eqb b 36) [ true ↦ host_atom s h | false ↦ elim (eqb b 124) [ true ↦ Bar | false ↦ Wrong UnknownAtom h ] ]
+            | false ↦ elim (eqb b 36) [ true ↦ host_atom s h | false ↦ elim (eqb b 124) [ true ↦ Ok Bar | false ↦ failed UnknownAtom h ] ]
           ]
         ]
       ]
@@ -72,29 +67,29 @@ sign_atom s b h =
 
 -- what is a span leads past it, or nowhere
 abbrev pub SpanOn : Text → Place → Must → Type 0
-SpanOn s p (Taken h q) = Advanced s p q
-SpanOn s p (Failed k q) = Unit {0}
+SpanOn s p (Ok t) = Advanced s p t.next
+SpanOn s p (Err e) = Unit {0}
 
 pub string_on : (s : Text) (p : Place) → Stands s p → SpanOn s p (string s p)
 string_on s p h = go (string s p) refl
   where
     go : (r : Must) → string s p ≡ r → SpanOn s p r
-    go (Taken a q) e = let l = string_accepted s p a q h e in record { stands = l.stands; further = let z : p.offset + 2 ≤ q.offset = l.quoted in omega arith }
-    go (Failed k q) e = tt
+    go (Ok t) e = let l = string_accepted s p t.here t.next h e in record { stands = l.stands; further = let z : p.offset + 2 ≤ t.next.offset = l.quoted in omega arith }
+    go (Err f) e = tt
 
 pub name_spans : (s : Text) (p : Place) → Stands s p → SpanOn s p (name s p)
 name_spans s p h = go (name s p) (name_on s p h)
   where
     go : (r : Must) → NamedOn s p r → SpanOn s p r
-    go (Taken a q) n = n.1
-    go (Failed k q) n = tt
+    go (Ok t) n = n.1
+    go (Err e) n = tt
 
 pub bytearray_spans : (s : Text) (p : Place) → Stands s p → SpanOn s p (bytearray s p)
 bytearray_spans s p h = go (bytearray s p) refl
   where
     go : (r : Must) → bytearray s p ≡ r → SpanOn s p r
-    go (Taken a q) e = (bytearray_accepted s p a q h e).1
-    go (Failed k q) e = tt
+    go (Ok t) e = (bytearray_accepted s p t.here t.next h e).1
+    go (Err f) e = tt
 
 -- the record of a leaf of this kind is an expression's, and its fields are what the table says of them
 pub record Plain (k : Kind) : Type 0 where
@@ -105,27 +100,27 @@ plain : {k : Kind} → ((made : List Rec) (p : Place) (v : ℕ) → Meant made (
 plain m e = record { meant = m; expression = e }
 
 -- an atom's record is an expression's; past it, or past the sign that opens it, the text goes on
-abbrev pub AtomOn : Text → Place → Atom → Type 0
-AtomOn s p (Leaf k v n) = Plain k × Advanced s p n
-AtomOn s p (Paren n) = Advanced s p n
-AtomOn s p (Bracket n) = Advanced s p n
-AtomOn s p (Brace n) = Advanced s p n
-AtomOn s p Bar = Advanced s p (on_by 1 p)
-AtomOn s p (Wrong k q) = Unit {0}
+abbrev pub AtomOn : Text → Place → Result Atom Refused → Type 0
+AtomOn s p (Ok (Leaf k v n)) = Plain k × Advanced s p n
+AtomOn s p (Ok (Paren n)) = Advanced s p n
+AtomOn s p (Ok (Bracket n)) = Advanced s p n
+AtomOn s p (Ok (Brace n)) = Advanced s p n
+AtomOn s p (Ok Bar) = Advanced s p (on_by 1 p)
+AtomOn s p (Err e) = Unit {0}
 
 module _ (s : Text) (p : Place) (h : Stands s p) where
   number_atom_on : AtomOn s p (number_atom p (number s p))
   number_atom_on = go (number s p) (number_on s p h)
     where
-      go : (x : Numeral) → NumeralOn s p x → AtomOn s p (number_atom p x)
-      go (Int v q) a = (plain (λ made p v. tt) tt, a.0)
-      go (Float q) a = (plain (λ made p v. tt) tt, a)
-      go (Bad k q) a = tt
+      go : (x : Result Numeral Refused) → NumeralOn s p x → AtomOn s p (number_atom p x)
+      go (Ok (Int v q)) a = (plain (λ made p v. tt) tt, a.0)
+      go (Ok (Float q)) a = (plain (λ made p v. tt) tt, a)
+      go (Err e) a = tt
 
   -- what is read a little further on
   span_atom_on : (k : Kind) (from : ℕ) (o : Place) (r : Must) → Plain k → Reached s p o → SpanOn s o r → AtomOn s p (span_atom k from r)
-  span_atom_on k from o (Taken a q) e l g = (e, advanced_on l g)
-  span_atom_on k from o (Failed j q) e l g = tt
+  span_atom_on k from o (Ok t) e l g = (e, advanced_on l g)
+  span_atom_on k from o (Err f) e l g = tt
 
   word_atom_on : (k : ℕ) (q : Place) → Advanced s p q → AtomOn s p (word_atom k p q)
   word_atom_on k q a =
@@ -134,15 +129,15 @@ module _ (s : Text) (p : Place) (h : Stands s p) where
       (λ t. choice P (eqb k 2) (λ t. (plain (λ made p v. tt) tt, a))
       (λ t. choice P (eqb k 3) (λ t. (plain (λ made p v. tt) tt, a)) (λ t. tt))))
     where
-      P : Atom → Type 0
+      P : Result Atom Refused → Type 0
       P = AtomOn s p
 
   name_atom_on : AtomOn s p (name_atom s (name s p))
   name_atom_on = go (name s p) (name_on s p h)
     where
       go : (r : Must) → NamedOn s p r → AtomOn s p (name_atom s r)
-      go (Taken a q) n = subst⁻¹ (λ (x : Place). AtomOn s p (word_atom (word_of (part s x.offset q.offset)) x q)) n.0 (word_atom_on (word_of (part s p.offset q.offset)) q n.1)
-      go (Failed k q) n = tt
+      go (Ok t) n = subst⁻¹ (λ (x : Place). AtomOn s p (word_atom (word_of (part s x.offset t.next.offset)) x t.next)) n.0 (word_atom_on (word_of (part s p.offset t.next.offset)) t.next n.1)
+      go (Err e) n = tt
 
   -- past a sign
   over_sign : (k : ℕ) → byte_at s p.offset ≡ k → k < 256 → Advanced s p (on_by 1 p)
@@ -163,7 +158,7 @@ module _ (s : Text) (p : Place) (h : Stands s p) where
       (λ t. choice P (eqb b 36) (λ t. host (sign 36 t (omega arith)))
       (λ t. choice P (eqb b 124) (λ t. sign 124 t (omega arith)) (λ t. tt))))))
     where
-      P : Atom → Type 0
+      P : Result Atom Refused → Type 0
       P = AtomOn s p
 
       sign : (k : ℕ) → eqb b k ≡ true → k < 256 → Advanced s p (on_by 1 p)
@@ -184,13 +179,13 @@ pub atom_quote : (s : Text) (b : ℕ) (h : Place) → is_digit b ≡ false → i
 atom_quote s b h d l q = rw (d, l, q, atom_by) refl
 
 -- what begins with none of these is decided by its sign
-abbrev last_atom : Text → Place → Bool → Bool → Atom
-last_atom s h host bar = elim host [ true ↦ host_atom s h | false ↦ elim bar [ true ↦ Bar | false ↦ Wrong UnknownAtom h ] ]
+abbrev last_atom : Text → Place → Bool → Bool → Result Atom Refused
+last_atom s h host bar = elim host [ true ↦ host_atom s h | false ↦ elim bar [ true ↦ Ok Bar | false ↦ failed UnknownAtom h ] ]
 
-sign_rest : (s : Text) (b : ℕ) (h : Place) (bytes : Atom) (t u : Bool) → eqb b 35 ≡ t
-    → ◌≡◌ {A = Atom}
+sign_rest : (s : Text) (b : ℕ) (h : Place) (bytes : Result Atom Refused) (t u : Bool) → eqb b 35 ≡ t
+    → ◌≡◌ {A = Result Atom Refused}
     (elim (t && u) [ true ↦ bytes | false ↦ last_atom s h (eqb b 36) (eqb b 124) ])
-    (elim t [ true ↦ elim u [ true ↦ bytes | false ↦ Wrong UnknownAtom h ] | false ↦ last_atom s h (eqb b 36) (eqb b 124) ])
+    (elim t [ true ↦ elim u [ true ↦ bytes | false ↦ failed UnknownAtom h ] | false ↦ last_atom s h (eqb b 36) (eqb b 124) ])
 sign_rest s b h bytes true true e = refl
 sign_rest s b h bytes true false e =
     let z = eqb-true b 35 e in
@@ -200,7 +195,7 @@ sign_rest s b h bytes false u e = refl
 pub atom_sign : (s : Text) (b : ℕ) (h : Place) → is_digit b ≡ false → is_letter b ≡ false → is_quote b ≡ false → atom_by s b h ≡ sign_atom s b h
 atom_sign s b h d l q =
     rw (d, l, q, atom_by) (
-    ap (λ (x : Atom). elim (eqb b 40) as (λ t. Atom) [ true ↦ Paren (on_by 1 h) | false ↦ elim (eqb b 91) as (λ t. Atom) [ true ↦ Bracket (on_by 1 h) | false ↦ elim (eqb b 123) as (λ t. Atom) [ true ↦ Brace (on_by 1 h) | false ↦ x ] ] ])
+    ap (λ (x : Result Atom Refused). elim (eqb b 40) as (λ t. Result Atom Refused) [ true ↦ Ok (Paren (on_by 1 h)) | false ↦ elim (eqb b 91) as (λ t. Result Atom Refused) [ true ↦ Ok (Bracket (on_by 1 h)) | false ↦ elim (eqb b 123) as (λ t. Result Atom Refused) [ true ↦ Ok (Brace (on_by 1 h)) | false ↦ x ] ] ])
     (sign_rest s b h (span_atom kinds.Bytes h.offset (bytearray s (on_by 2 h))) (eqb b 35) (eqb (byte_at s (h.offset + 1)) 91) refl)
     )
 
@@ -220,27 +215,27 @@ atom_on s p h = go (is_digit b) refl (is_letter b) refl (is_quote b) refl
     go false d false l false q = subst⁻¹ (AtomOn s p) (atom_sign s b p d l q) (sign_atom_on s p h b refl)
 
 -- the same of an answer at hand
-pub atom_at : {s : Text} {p : Place} {a x : Atom} → Stands s p → a ≡ atom_of s p → a ≡ x → AtomOn s p x
+pub atom_at : {s : Text} {p : Place} {a x : Result Atom Refused} → Stands s p → a ≡ atom_of s p → a ≡ x → AtomOn s p x
 atom_at {s} {p} h e f = subst (AtomOn s p) (sym e ∙ f) (atom_on s p h)
 
 -- ---- the kinds of a leaf: its value stands in two words
 
-abbrev pub AtomLeaf : Atom → Type 0
-AtomLeaf (Leaf k v n) = is_leaf (number_of k) ≡ true
-AtomLeaf (Paren n) = Unit {0}
-AtomLeaf (Bracket n) = Unit {0}
-AtomLeaf (Brace n) = Unit {0}
-AtomLeaf Bar = Unit {0}
-AtomLeaf (Wrong k q) = Unit {0}
+abbrev pub AtomLeaf : Result Atom Refused → Type 0
+AtomLeaf (Ok (Leaf k v n)) = is_leaf (number_of k) ≡ true
+AtomLeaf (Ok (Paren n)) = Unit {0}
+AtomLeaf (Ok (Bracket n)) = Unit {0}
+AtomLeaf (Ok (Brace n)) = Unit {0}
+AtomLeaf (Ok Bar) = Unit {0}
+AtomLeaf (Err e) = Unit {0}
 
-number_leaf : (h : Place) (x : Numeral) → AtomLeaf (number_atom h x)
-number_leaf h (Int v q) = refl
-number_leaf h (Float q) = refl
-number_leaf h (Bad k q) = tt
+number_leaf : (h : Place) (x : Result Numeral Refused) → AtomLeaf (number_atom h x)
+number_leaf h (Ok (Int v q)) = refl
+number_leaf h (Ok (Float q)) = refl
+number_leaf h (Err e) = tt
 
 span_leaf : (k : Kind) (from : ℕ) (r : Must) → is_leaf (number_of k) ≡ true → AtomLeaf (span_atom k from r)
-span_leaf k from (Taken a q) e = e
-span_leaf k from (Failed j q) e = tt
+span_leaf k from (Ok t) e = e
+span_leaf k from (Err f) e = tt
 
 word_leaf : (k : ℕ) (h q : Place) → AtomLeaf (word_atom k h q)
 word_leaf k h q =
@@ -249,8 +244,8 @@ word_leaf k h q =
     (λ t. choice AtomLeaf (eqb k 2) (λ t. refl) (λ t. choice AtomLeaf (eqb k 3) (λ t. refl) (λ t. tt))))
 
 name_leaf : (s : Text) (r : Must) → AtomLeaf (name_atom s r)
-name_leaf s (Taken h q) = word_leaf (word_of (part s h.offset q.offset)) h q
-name_leaf s (Failed k q) = tt
+name_leaf s (Ok t) = word_leaf (word_of (part s t.here.offset t.next.offset)) t.here t.next
+name_leaf s (Err e) = tt
 
 atom_leaf : (s : Text) (b : ℕ) (h : Place) → AtomLeaf (atom_by s b h)
 atom_leaf s b h =
@@ -264,6 +259,6 @@ atom_leaf s b h =
     (λ t. choice AtomLeaf (eqb b 36) (λ t. span_leaf kinds.Host (h.offset + 1) (name s (on_by 1 h)) refl)
     (λ t. choice AtomLeaf (eqb b 124) (λ t. tt) (λ t. tt)))))))))
 
-pub leaf_kind : (s : Text) (p : Place) {k : Kind} {v : ℕ} {n : Place} → atom_of s p ≡ Leaf k v n → is_leaf (number_of k) ≡ true
+pub leaf_kind : (s : Text) (p : Place) {k : Kind} {v : ℕ} {n : Place} → atom_of s p ≡ Ok (Leaf k v n) → is_leaf (number_of k) ≡ true
 unfolding atom_of
 leaf_kind s p e = subst AtomLeaf e (atom_leaf s (byte_at s p.offset) p)

@@ -1,8 +1,9 @@
 -- The rules of classes, each headed by its production. Assumes nothing.
-use Rattle.std.specs.Prelude.{Bool, ◌&&◌, List, [], ℕ, zero, suc, eqb}
+use Rattle.std.specs.Prelude.{Bool, ◌&&◌, List, [], ℕ, zero, suc, eqb, Err, Ok, Result}
 use Rattle.characters.specs.declared.place.Place.{Place}
 use Rattle.characters.specs.declared.place.Span.{Span}
 use Rattle.characters.specs.declared.refusal.Refusal.TheVariants.{InitWithoutParameter}
+use Rattle.characters.specs.declared.refusal.Refused.{Refused}
 use Rattle.characters.specs.Text.{Text, ascii}
 use Rattle.characters.specs.Names.{name, part, same}
 use Rattle.reading.specs.declared.node.Node.{Node}
@@ -11,7 +12,6 @@ use Rattle.records.specs.declared.kind.Kind.TheVariants as kinds
 use Rattle.records.specs.declared.row.Row.{Row}
 use Rattle.records.specs.Rows.{record_of}
 use Rattle.grammar.specs.declared.heads.ClassHead.{ClassHead}
-use Rattle.grammar.specs.declared.heads.ClassHead.TheVariants.{Opened, Wrong}
 use Rattle.grammar.specs.Leaves.{close_of}
 use Rattle.grammar.specs.Heads.{name_of, class_of}
 use Rattle.grammar.specs.Expressions.{Rule, function, turns, method_row}
@@ -54,9 +54,9 @@ unfoldable pub class_end_p : Place → ℕ → ℕ → Node → Place → Rule
 class_end_p from name parent methods p = bind (fresh p) (λ q i. make q (record_of (class_row from i.number name parent methods.number)) name)
 
 -- by what stands up to its `{`
-abbrev pub class_as : Text → Place → ℕ → ClassHead → Rule
-class_as s from name (Opened parent n) = bind (methods_p (turns s) s [] 0 n) (λ q l. class_end_p from name parent l q)
-class_as s from name (Wrong k q) = stop k q
+abbrev pub class_as : Text → Place → ℕ → Result ClassHead Refused → Rule
+class_as s from name (Ok t) = bind (methods_p (turns s) s [] 0 t.next) (λ q l. class_end_p from name t.parent l q)
+class_as s from name (Err e) = stop e.refusal e.at
 
 -- after `class`. "30 the class's .. start"
 unfoldable pub class_p : Text → Place → List Span → Place → Rule

@@ -8,10 +8,10 @@ use Rattle.characters.specs.Tokens.{spells, token, expected}
 use Rattle.literals.specs.Numbers.{number, decimal, digits, run, past_digits, dotted, fraction, exponent_or, exponent, whole, based, digit_of}
 use Rattle.literals.specs.Strings.{among, decode, escape, hex_by, key_of, letter_of, same_key, scan, string, value_in, width_in}
 use Rattle.reading.specs.declared.answer.Answer.{Answer}
+use Rattle.reading.specs.Answers.{answer_of}
 use Rattle.reading.specs.Events.{Rec, Outcome, records_of, comparisons_of}
 use Rattle.reading.specs.Limits.{limited}
 use Rattle.reading.specs.Process.{reading, call}
-use Rattle.reading.specs.Answers.{answer_of}
 use Rattle.records.specs.declared.kind.Kind.{Kind}
 use Rattle.records.specs.declared.kind.Kind.TheVariants as kinds
 use Rattle.records.specs.declared.row.Row.{Row}

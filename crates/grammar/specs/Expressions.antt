@@ -1,10 +1,10 @@
 -- The rules of expressions, each headed by its production. A rule is data: it says `call` where it goes one level deeper. Assumes nothing.
-use Rattle.std.specs.Prelude.{Bool, ◌||◌, List, [], ◌∷◌, ℕ, zero, suc, ◌+◌, ◌-◌, ◌%◌, leb, eqb, length}
+use Rattle.std.specs.Prelude.{Bool, ◌||◌, List, [], ◌∷◌, ℕ, zero, suc, ◌+◌, ◌-◌, ◌%◌, leb, eqb, length, Err, Ok, Result}
 use Rattle.characters.specs.declared.place.Place.{Place}
 use Rattle.characters.specs.declared.place.Span.{Span}
-use Rattle.characters.specs.declared.tokens.Must.{Must}
-use Rattle.characters.specs.declared.tokens.Must.TheVariants.{Taken, Failed}
 use Rattle.characters.specs.declared.refusal.Refusal.TheVariants.{UnaryPlus, AssignmentAsExpression, Duplicate, TooManyArguments}
+use Rattle.characters.specs.declared.refusal.Refused.{Refused}
+use Rattle.characters.specs.Answers.{Must}
 use Rattle.characters.specs.Text.{Text, ascii}
 use Rattle.characters.specs.Tokens.{token, expected}
 use Rattle.literals.specs.Strings.{same_key}
@@ -17,18 +17,16 @@ use Rattle.records.specs.declared.row.Row.{Row}
 use Rattle.records.specs.Kinds.{number_of}
 use Rattle.records.specs.Rows.{record_of}
 use Rattle.records.specs.Words.{span_word}
-use Rattle.grammar.specs.declared.leaves.Prefix.{Prefix}
 use Rattle.grammar.specs.declared.leaves.Prefix.TheVariants.{Sign, Other}
-use Rattle.grammar.specs.declared.leaves.Prefix.TheVariants as prefix
-use Rattle.grammar.specs.declared.leaves.Atom.{Atom}
 use Rattle.grammar.specs.declared.leaves.Atom.TheVariants.{Leaf, Paren, Bracket, Brace, Bar}
-use Rattle.grammar.specs.declared.leaves.Atom.TheVariants as atom
-use Rattle.grammar.specs.declared.leaves.Postfix.{Postfix}
 use Rattle.grammar.specs.declared.leaves.Postfix.TheVariants as post
 use Rattle.grammar.specs.declared.leaves.Suffix.{Suffix}
 use Rattle.grammar.specs.declared.leaves.Suffix.TheVariants as suffix
 use Rattle.grammar.specs.declared.leaves.Link.{Link}
 use Rattle.grammar.specs.declared.leaves.Link.TheVariants.{Choice, Operator, Assign, End}
+use Rattle.grammar.specs.declared.leaves.Atom.{Atom}
+use Rattle.grammar.specs.declared.leaves.Postfix.{Postfix}
+use Rattle.grammar.specs.declared.leaves.Prefix.{Prefix}
 use Rattle.grammar.specs.Operators.{strength_of, loosest}
 use Rattle.grammar.specs.Leaves.{row_of, leaf_row, prefix_of, atom_of, postfix_of, link_of, close_of, follow_of, key_at}
 
@@ -117,8 +115,8 @@ pair_p s from keys last h =
 
 -- the keys with the one that stands here
 abbrev pub with_key : Must → List Span → List Span
-with_key (Taken k q) keys = key_span k q ∷ keys
-with_key (Failed k q) keys = keys
+with_key (Ok t) keys = key_span t.here t.next ∷ keys
+with_key (Err e) keys = keys
 
 abbrev pub dict_row : Place → ℕ → Row
 dict_row from last = row_of kinds.Dict from last 0 0
@@ -147,13 +145,13 @@ array_p s from p = bind (list_p (turns s) s 93 0 0 p) (λ q l. make q (record_of
 unfoldable pub closure_p : Place → Rule
 closure_p h = bind (call lambda h) (λ q f. make q (record_of (row_of kinds.Closure h f.number 0 0)) 0)
 
-abbrev pub atom_as : Text → Place → Atom → Rule
-atom_as s h (Leaf k v next) = make next (record_of (leaf_row k h v)) v
-atom_as s h (Paren next) = paren_p s next
-atom_as s h (Bracket next) = array_p s h next
-atom_as s h (Brace next) = dict_p (turns s) s h [] 0 next
-atom_as s h Bar = closure_p h
-atom_as s h (atom.Wrong k q) = stop k q
+abbrev pub atom_as : Text → Place → Result Atom Refused → Rule
+atom_as s h (Ok (Leaf k v next)) = make next (record_of (leaf_row k h v)) v
+atom_as s h (Ok (Paren next)) = paren_p s next
+atom_as s h (Ok (Bracket next)) = array_p s h next
+atom_as s h (Ok (Brace next)) = dict_p (turns s) s h [] 0 next
+atom_as s h (Ok Bar) = closure_p h
+atom_as s h (Err e) = stop e.refusal e.at
 
 unfoldable pub atom_p : Text → Place → Rule
 unfolding atom_of paren_p array_p dict_p closure_p
@@ -180,10 +178,10 @@ extend_p s base (suffix.Index h n) = index_p s base h n
 extend_p s base (suffix.Member h span n) = make n (record_of (row_of kinds.Member h base.number span 0)) 0
 extend_p s base (suffix.InstanceOf h span n) = make n (record_of (row_of kinds.InstanceOf h base.number span 0)) 0
 
-abbrev pub postfix_as : Text → Node → Postfix → (Node → Place → Rule) → Rule
-postfix_as s base (post.More x) again = bind (extend_p s base x) (λ q m. again m q)
-postfix_as s base (post.Rest h) again = done h base
-postfix_as s base (post.Wrong k q) again = stop k q
+abbrev pub postfix_as : Text → Node → Result Postfix Refused → (Node → Place → Rule) → Rule
+postfix_as s base (Ok (post.More x)) again = bind (extend_p s base x) (λ q m. again m q)
+postfix_as s base (Ok (post.Rest h)) again = done h base
+postfix_as s base (Err e) again = stop e.refusal e.at
 
 unfoldable pub postfixes_p : ℕ → Text → Node → Place → Rule
 unfolding postfix_of call_p index_p
@@ -229,10 +227,10 @@ sign_p sign h e q =
     test (eqb sign 33) (make q (record_of (row_of kinds.Unary h bang e.number 0)) 0)
     (test (eqb sign 45) (minus_p e q) (plus_p e q))
 
-abbrev pub prefix_as : Text → Prefix → Rule
-prefix_as s (Sign sign h n) = bind (call operand n) (λ q e. sign_p sign h e q)
-prefix_as s (Other h) = postfix_p s h
-prefix_as s (prefix.Wrong k q) = stop k q
+abbrev pub prefix_as : Text → Result Prefix Refused → Rule
+prefix_as s (Ok (Sign sign h n)) = bind (call operand n) (λ q e. sign_p sign h e q)
+prefix_as s (Ok (Other h)) = postfix_p s h
+prefix_as s (Err e) = stop e.refusal e.at
 
 unfoldable pub prefix_p : Text → Place → Rule
 unfolding prefix_of postfix_p sign_p

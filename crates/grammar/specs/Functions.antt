@@ -1,10 +1,9 @@
 -- The rules of parameters, blocks, functions and lambdas, each headed by its production. Assumes nothing.
-use Rattle.std.specs.Prelude.{Bool, List, [], ◌∷◌, ℕ, zero, suc, ◌+◌, leb}
+use Rattle.std.specs.Prelude.{Bool, List, [], ◌∷◌, ℕ, zero, suc, ◌+◌, leb, Err, Ok}
 use Rattle.characters.specs.declared.place.Place.{Place}
 use Rattle.characters.specs.declared.place.Span.{Span}
 use Rattle.characters.specs.declared.refusal.Refusal.TheVariants.{Duplicate, TooManyArguments}
-use Rattle.characters.specs.declared.tokens.Must.{Must}
-use Rattle.characters.specs.declared.tokens.Must.TheVariants.{Taken, Failed}
+use Rattle.characters.specs.Answers.{Must}
 use Rattle.characters.specs.Text.{Text, ascii, on_by}
 use Rattle.characters.specs.Names.{free_name, part, same}
 use Rattle.characters.specs.Tokens.{token, expected}
@@ -42,8 +41,8 @@ new_name s q at new (k ∷ ks) next = bind (compare q) (λ p n. test (same_name 
 
 -- the names with the one that stands here
 abbrev pub with_name : Must → List Span → List Span
-with_name (Taken h q) names = name_span h q ∷ names
-with_name (Failed k q) names = names
+with_name (Ok t) names = name_span t.here t.next ∷ names
+with_name (Err e) names = names
 
 -- ---- parameters: { name ',' } [ name ] end
 

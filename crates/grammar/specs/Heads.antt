@@ -1,36 +1,32 @@
 -- What stands at a place where a statement, a declaration or a unit's item begins. Assumes nothing.
-use Rattle.std.specs.Prelude.{true, false, ◌&&◌, List, [], ◌∷◌, ℕ, ◌+◌, eqb, length, drop}
+use Rattle.std.specs.Prelude.{true, false, ◌&&◌, List, [], ◌∷◌, ℕ, ◌+◌, eqb, length, drop, Err, None, Ok, Option, Result}
 use Rattle.characters.specs.declared.place.Place.{Place}
 use Rattle.characters.specs.declared.refusal.Refusal.TheVariants.{EndOfInput, ExtraSemicolon}
-use Rattle.characters.specs.declared.tokens.Look.{Look}
-use Rattle.characters.specs.declared.tokens.Look.TheVariants.{Found, Missing, Halted}
-use Rattle.characters.specs.declared.tokens.Must.{Must}
-use Rattle.characters.specs.declared.tokens.Must.TheVariants.{Taken, Failed}
+use Rattle.characters.specs.declared.refusal.Refused.{Refused}
+use Rattle.characters.specs.Answers.{Looked, Must, failed, found, missing}
 use Rattle.characters.specs.Text.{Text, byte_at, ascii, on_by}
 use Rattle.characters.specs.Blanks.{blanks}
 use Rattle.characters.specs.Names.{is_letter, name, free_name, part, word_of}
 use Rattle.characters.specs.Tokens.{spells, is_keyword, token, keyword, expected}
 use Rattle.records.specs.Words.{span_word}
-use Rattle.grammar.specs.declared.heads.StatementHead.{StatementHead}
 use Rattle.grammar.specs.declared.heads.StatementHead.TheVariants as head
-use Rattle.grammar.specs.declared.heads.StepHead.{StepHead}
 use Rattle.grammar.specs.declared.heads.StepHead.TheVariants as steps
-use Rattle.grammar.specs.declared.heads.Assignment.{Assignment}
-use Rattle.grammar.specs.declared.heads.Assignment.TheVariants.{Sign, Absent}
-use Rattle.grammar.specs.declared.heads.LetHead.{LetHead}
-use Rattle.grammar.specs.declared.heads.LetHead.TheVariants as lets
-use Rattle.grammar.specs.declared.heads.ClassHead.{ClassHead}
-use Rattle.grammar.specs.declared.heads.ClassHead.TheVariants as classes
-use Rattle.grammar.specs.declared.heads.ItemHead.{ItemHead}
 use Rattle.grammar.specs.declared.heads.ItemHead.TheVariants as item
+use Rattle.grammar.specs.declared.heads.Assignment.{Assignment}
+use Rattle.grammar.specs.declared.heads.ClassHead.{ClassHead}
+use Rattle.grammar.specs.declared.heads.ItemHead.{ItemHead}
+use Rattle.grammar.specs.declared.heads.LetHead.{LetHead}
+use Rattle.grammar.specs.declared.heads.StatementHead.{StatementHead}
+use Rattle.grammar.specs.declared.heads.StepHead.{StepHead}
+use Rattle.grammar.specs.Answers.{assigns, lets_name, opens_class}
 use Rattle.grammar.specs.Operators.{assignments}
 
 -- ---- names
 
 -- the name after the blanks that were passed
 abbrev pub name_past : Text → Must → Must
-name_past s (Taken p h) = free_name s h
-name_past s (Failed k q) = Failed k q
+name_past s (Ok t) = free_name s t.next
+name_past s (Err e) = Err e
 
 -- the name past the blanks, where reserved words are barred: 11 or 12 at its start
 unfoldable pub name_of : Text → Place → Must
@@ -71,45 +67,45 @@ word_head k h q =
     ]
 
 -- a statement that begins with this name
-abbrev pub name_head : Text → Must → StatementHead
-name_head s (Taken h q) = word_head (word_of (part s h.offset q.offset)) h q
-name_head s (Failed k q) = head.Wrong k q
+abbrev pub name_head : Text → Must → Result StatementHead Refused
+name_head s (Ok t) = Ok (word_head (word_of (part s t.here.offset t.next.offset)) t.here t.next)
+name_head s (Err e) = Err e
 
 -- a statement that begins with this byte
-abbrev pub head_by : Text → ℕ → Place → StatementHead
+abbrev pub head_by : Text → ℕ → Place → Result StatementHead Refused
 head_by s b h =
     elim (is_letter b) [
       | true ↦ name_head s (name s h)
       | false ↦ elim (eqb b 123) [
-        | true ↦ head.Block h (on_by 1 h)
-        | false ↦ elim (eqb b 59) [ true ↦ head.Wrong ExtraSemicolon h | false ↦ head.ExprOrAssign h ]
+        | true ↦ Ok (head.Block h (on_by 1 h))
+        | false ↦ elim (eqb b 59) [ true ↦ failed ExtraSemicolon h | false ↦ Ok (head.ExprOrAssign h) ]
       ]
     ]
 
 -- a statement after the blanks that were passed
-abbrev pub head_past : Text → Must → StatementHead
-head_past s (Taken p h) = head_by s (byte_at s h.offset) h
-head_past s (Failed k q) = head.Wrong k q
+abbrev pub head_past : Text → Must → Result StatementHead Refused
+head_past s (Ok t) = head_by s (byte_at s t.next.offset) t.next
+head_past s (Err e) = Err e
 
 -- past the blanks what a statement begins with; `;` is 29
-unfoldable pub head_of : Text → Place → StatementHead
+unfoldable pub head_of : Text → Place → Result StatementHead Refused
 head_of s p = head_past s (blanks s p)
 
 -- the target of `++` or `--`, after the blanks that were passed
-abbrev pub step_past : ℕ → Must → StepHead
-step_past op (Taken p n) = steps.Step op n
-step_past op (Failed k q) = steps.Wrong k q
+abbrev pub step_past : ℕ → Must → Result StepHead Refused
+step_past op (Ok t) = Ok (steps.Step op t.next)
+step_past op (Err e) = Err e
 
 -- these two bytes: `++` is the operator `+`, `--` the operator `-`, by their numbers
-abbrev pub step_by : Text → ℕ → ℕ → Place → StepHead
+abbrev pub step_by : Text → ℕ → ℕ → Place → Result StepHead Refused
 step_by s b c h =
     elim (eqb b 43 && eqb c 43) [
       | true ↦ step_past 4 (blanks s (on_by 2 h))
-      | false ↦ elim (eqb b 45 && eqb c 45) [ true ↦ step_past 5 (blanks s (on_by 2 h)) | false ↦ steps.Other ]
+      | false ↦ elim (eqb b 45 && eqb c 45) [ true ↦ step_past 5 (blanks s (on_by 2 h)) | false ↦ Ok steps.Other ]
     ]
 
 -- at a place that is past the blanks: `++` or `--`, as the operator `+` or `-`, and the place of its target, past the blanks; or neither
-unfoldable pub step_of : Text → Place → StepHead
+unfoldable pub step_of : Text → Place → Result StepHead Refused
 step_of s h = step_by s (byte_at s h.offset) (byte_at s (h.offset + 1)) h
 
 -- the operators of the signs of assignment, in the order of those: "`a op= b` is `a = a op b`"
@@ -117,69 +113,69 @@ abbrev pub assigning : List ℕ
 assigning = 6 ∷ 7 ∷ 1 ∷ 2 ∷ 3 ∷ 4 ∷ 5 ∷ 16 ∷ 17 ∷ 18 ∷ []
 
 -- a `=` that opens no `==`
-abbrev pub equals_by : ℕ → ℕ → Place → Assignment
-equals_by b c p = elim (eqb b 61) [ true ↦ elim (eqb c 61) [ true ↦ Absent | false ↦ Sign 0 (on_by 1 p) ] | false ↦ Absent ]
+abbrev pub equals_by : ℕ → ℕ → Place → Option Assignment
+equals_by b c p = elim (eqb b 61) [ true ↦ elim (eqb c 61) [ true ↦ None | false ↦ assigns 0 (on_by 1 p) ] | false ↦ None ]
 
 -- the first of these signs that a text begins with, by its operator; or a `=`
-unfoldable pub assign_in : List Text → List ℕ → Text → Place → Assignment
+unfoldable pub assign_in : List Text → List ℕ → Text → Place → Option Assignment
 assign_in [] ks t p = equals_by (byte_at t 0) (byte_at t 1) p
 assign_in (w ∷ ws) [] t p = equals_by (byte_at t 0) (byte_at t 1) p
-assign_in (w ∷ ws) (k ∷ ks) t p = elim (spells w t) [ true ↦ Sign k (on_by (length w) p) | false ↦ assign_in ws ks t p ]
+assign_in (w ∷ ws) (k ∷ ks) t p = elim (spells w t) [ true ↦ assigns k (on_by (length w) p) | false ↦ assign_in ws ks t p ]
 
 -- the assignment sign at a place that is past the blanks
-unfoldable pub assign_of : Text → Place → Assignment
+unfoldable pub assign_of : Text → Place → Option Assignment
 assign_of s p = assign_in assignments assigning (drop p.offset s) p
 
 -- ---- blocks
 
 -- the end of the text, or else what was looked for
-abbrev pub end_by : ℕ → Place → Look → Look
-end_by b p l = elim (eqb b 256) [ true ↦ Halted EndOfInput p | false ↦ l ]
+abbrev pub end_by : ℕ → Place → Looked → Looked
+end_by b p l = elim (eqb b 256) [ true ↦ failed EndOfInput p | false ↦ l ]
 
 -- the `}` of a block, or a statement past the blanks. The end of the text is 19 where it stands before any blanks
-unfoldable pub end_of : Text → Place → Look
+unfoldable pub end_of : Text → Place → Looked
 end_of s p = end_by (byte_at s p.offset) p (token s p (ascii "}"))
 
 -- ---- declarations
 
 -- after the name: its `=`
-abbrev pub let_to : ℕ → Place → Place → Must → LetHead
-let_to mark h q (Taken e n) = lets.Named mark (span_word h.offset q.offset) n
-let_to mark h q (Failed k r) = lets.Wrong k r
+abbrev pub let_to : ℕ → Place → Place → Must → Result LetHead Refused
+let_to mark h q (Ok t) = lets_name mark (span_word h.offset q.offset) t.next
+let_to mark h q (Err e) = Err e
 
 -- after `let`, or after `let var`: the name and its `=`
-abbrev pub let_named : Text → ℕ → Must → LetHead
-let_named s mark (Taken h q) = let_to mark h q (expected s q (ascii "="))
-let_named s mark (Failed k q) = lets.Wrong k q
+abbrev pub let_named : Text → ℕ → Must → Result LetHead Refused
+let_named s mark (Ok t) = let_to mark t.here t.next (expected s t.next (ascii "="))
+let_named s mark (Err e) = Err e
 
 -- `var` was found, or was missing
-abbrev pub let_by : Text → Look → LetHead
-let_by s (Found h n) = let_named s 1 (name_of s n)
-let_by s (Missing h) = let_named s 0 (name_of s h)
-let_by s (Halted k q) = lets.Wrong k q
+abbrev pub let_by : Text → Looked → Result LetHead Refused
+let_by s (found h n) = let_named s 1 (name_of s n)
+let_by s (missing h) = let_named s 0 (name_of s h)
+let_by s (Err e) = Err e
 
 -- after `let`: [ 'var' ] name '='
-unfoldable pub let_of : Text → Place → LetHead
+unfoldable pub let_of : Text → Place → Result LetHead Refused
 let_of s p = let_by s (keyword s p (ascii "var"))
 
 -- after the name, or after the parent: the `{`
-abbrev pub opened_by : ℕ → Must → ClassHead
-opened_by parent (Taken h n) = classes.Opened parent n
-opened_by parent (Failed k q) = classes.Wrong k q
+abbrev pub opened_by : ℕ → Must → Result ClassHead Refused
+opened_by parent (Ok t) = opens_class parent t.next
+opened_by parent (Err e) = Err e
 
 -- after `extends`: the parent's name and the `{`
-abbrev pub parent_by : Text → Must → ClassHead
-parent_by s (Taken h q) = opened_by (span_word h.offset q.offset) (expected s q (ascii "{"))
-parent_by s (Failed k q) = classes.Wrong k q
+abbrev pub parent_by : Text → Must → Result ClassHead Refused
+parent_by s (Ok t) = opened_by (span_word t.here.offset t.next.offset) (expected s t.next (ascii "{"))
+parent_by s (Err e) = Err e
 
 -- `extends` was found, or was missing
-abbrev pub class_by : Text → Look → ClassHead
-class_by s (Found h n) = parent_by s (name_of s n)
-class_by s (Missing h) = opened_by 0 (expected s h (ascii "{"))
-class_by s (Halted k q) = classes.Wrong k q
+abbrev pub class_by : Text → Looked → Result ClassHead Refused
+class_by s (found h n) = parent_by s (name_of s n)
+class_by s (missing h) = opened_by 0 (expected s h (ascii "{"))
+class_by s (Err e) = Err e
 
 -- after the name of a class: [ 'extends' name ] '{'
-unfoldable pub class_of : Text → Place → ClassHead
+unfoldable pub class_of : Text → Place → Result ClassHead Refused
 class_of s p = class_by s (keyword s p (ascii "extends"))
 
 -- ---- the unit
@@ -193,10 +189,10 @@ item_by s b h =
     ]
 
 -- an item after the blanks that were passed
-abbrev pub item_past : Text → Must → ItemHead
-item_past s (Taken p h) = item_by s (byte_at s h.offset) h
-item_past s (Failed k q) = item.Wrong k q
+abbrev pub item_past : Text → Must → Result ItemHead Refused
+item_past s (Ok t) = Ok (item_by s (byte_at s t.next.offset) t.next)
+item_past s (Err e) = Err e
 
 -- past the blanks what an item of the unit begins with
-unfoldable pub item_of : Text → Place → ItemHead
+unfoldable pub item_of : Text → Place → Result ItemHead Refused
 item_of s p = item_past s (blanks s p)

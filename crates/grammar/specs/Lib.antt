@@ -1,3 +1,4 @@
+pub mod Answers
 pub mod Operators
 pub mod Leaves
 pub mod LeafLaws

@@ -1,17 +1,17 @@
 -- Laws of the contract of readers that hand on no node: one for each way in which a return comes about, and what the next reader may be
 -- called with. Assumes nothing.
-use Rattle.std.specs.Prelude.{◌≡◌, refl, Bool, true, List, ℕ, ◌+◌, ◌≤◌}
+use Rattle.std.specs.Prelude.{◌≡◌, refl, Bool, true, List, ℕ, ◌+◌, ◌≤◌, Ok, Result}
 use Rattle.std.proofs.Common.{ap, subst, ◌∙◌, arith}
 use Rattle.std.proofs.Math.Path.{subst⁻¹}
 use Rattle.characters.specs.declared.place.Place.{Place}
 use Rattle.characters.specs.declared.refusal.Refusal.{Refusal}
+use Rattle.characters.specs.declared.refusal.Refused.{Refused as Refusing}
 use Rattle.characters.specs.Text.{Text, Stands, on_by}
 use Rattle.characters.specs.PlaceLaws.{Reached, Advanced, reached_here}
 use Rattle.reading.specs.declared.node.Node.{Node}
 use Rattle.reading.specs.declared.tally.Tally.{Tally}
-use Rattle.reading.specs.declared.answer.Out.TheVariants as out
-use Rattle.reading.specs.declared.answer.Got.{Got}
-use Rattle.reading.specs.declared.answer.Got.TheVariants.{Read, Refused}
+use Rattle.reading.specs.Outs as out
+use Rattle.reading.specs.Gots.{Got, Read, Refused}
 use Rattle.reading.specs.Events.{with_id}
 use Rattle.reading.specs.Process.{Process, make, fresh, bind, plain}
 use Rattle.reading.specs.Says.{Makes, Does}
@@ -25,8 +25,8 @@ use Rattle.records.specs.Nodes.{Stored, is_leaf, role_by, closure_at, value_of, 
 use Rattle.records.proofs.Laws.Words.{whole_back}
 use Rattle.records.proofs.Laws.Rows.{lent_kept}
 use Rattle.records.proofs.Laws.Nodes.{stored_made, row_read, leaf_value, closure_earlier, does_length, read_of, refused_of}
-use Rattle.grammar.specs.declared.leaves.Atom.{Atom}
 use Rattle.grammar.specs.declared.leaves.Atom.TheVariants.{Leaf}
+use Rattle.grammar.specs.declared.leaves.Atom.{Atom}
 use Rattle.grammar.specs.Leaves.{leaf_row, atom_of}
 use Rattle.grammar.specs.AtomLaws.{leaf_kind}
 use Rattle.grammar.specs.Expressions.{Routine, atom_as, atom_p}
@@ -179,9 +179,9 @@ let_row_lem A made from mark name k h = ap (λ (b : Bool). whole_of name (role_b
 
 -- an atom that is one record
 pub reads_leaf : {s : Text} {cap comps left : ℕ} (p : Place) {k : Kind} {v : ℕ} {n : Place} {t : Tally} {r : Got} {A B : List ℕ}
-    → atom_of s p ≡ Leaf k v n
+    → atom_of s p ≡ Ok (Leaf k v n)
     → Ready s A cap n t → MakesRow cap t n (leaf_row k p v) r A B → Reads s cap comps left n t (atom_p s p) r A B
 unfolding atom_p
 reads_leaf {s} {cap} {comps} {left} p {k} {v} {n} {t} {r} {A} {B} e g m =
-    subst⁻¹ (λ (a : Atom). Reads s cap comps left n t (atom_as s p a) r A B) e
+    subst⁻¹ (λ (a : Result Atom Refusing). Reads s cap comps left n t (atom_as s p a) r A B) e
     (reads_valued g (leaf_row_lem k A t.records p v (leaf_kind s p e)) m)

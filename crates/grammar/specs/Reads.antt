@@ -4,8 +4,7 @@ use Rattle.characters.specs.declared.place.Place.{Place}
 use Rattle.characters.specs.Text.{Text, Stands}
 use Rattle.characters.specs.PlaceLaws.{Reached}
 use Rattle.reading.specs.declared.tally.Tally.{Tally}
-use Rattle.reading.specs.declared.answer.Got.{Got}
-use Rattle.reading.specs.declared.answer.Got.TheVariants.{Read, Refused}
+use Rattle.reading.specs.Gots.{Got, Read, Refused}
 use Rattle.reading.specs.Process.{Process}
 use Rattle.reading.specs.Says.{Does}
 use Rattle.records.specs.Rows.{Lent, layout}

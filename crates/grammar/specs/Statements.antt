@@ -1,7 +1,8 @@
 -- The rules of statements, each headed by its production. Assumes nothing.
-use Rattle.std.specs.Prelude.{Bool, ◌||◌, [], ◌∷◌, ℕ, eqb}
+use Rattle.std.specs.Prelude.{Bool, ◌||◌, [], ◌∷◌, ℕ, eqb, Err, None, Ok, Option, Result, Some}
 use Rattle.characters.specs.declared.place.Place.{Place}
 use Rattle.characters.specs.declared.refusal.Refusal.TheVariants.{InvalidTarget, NotACall, DeclarationAsBody}
+use Rattle.characters.specs.declared.refusal.Refused.{Refused}
 use Rattle.characters.specs.Text.{Text, ascii}
 use Rattle.characters.specs.Tokens.{token, keyword, expected}
 use Rattle.reading.specs.declared.node.Node.{Node}
@@ -12,14 +13,12 @@ use Rattle.records.specs.declared.row.Row.{Row}
 use Rattle.records.specs.Rows.{record_of}
 use Rattle.records.specs.Words.{whole_of}
 use Rattle.records.specs.Nodes.{role_by}
-use Rattle.grammar.specs.declared.heads.StatementHead.{StatementHead}
 use Rattle.grammar.specs.declared.heads.StatementHead.TheVariants as head
-use Rattle.grammar.specs.declared.heads.StepHead.{StepHead}
 use Rattle.grammar.specs.declared.heads.StepHead.TheVariants as steps
 use Rattle.grammar.specs.declared.heads.Assignment.{Assignment}
-use Rattle.grammar.specs.declared.heads.Assignment.TheVariants.{Sign, Absent}
 use Rattle.grammar.specs.declared.heads.LetHead.{LetHead}
-use Rattle.grammar.specs.declared.heads.LetHead.TheVariants as lets
+use Rattle.grammar.specs.declared.heads.StatementHead.{StatementHead}
+use Rattle.grammar.specs.declared.heads.StepHead.{StepHead}
 use Rattle.grammar.specs.Leaves.{row_of, leaf_row}
 use Rattle.grammar.specs.Heads.{name_of, head_of, step_of, assign_of, let_of}
 use Rattle.grammar.specs.Expressions.{Rule, expression, before_assignment, statement, function, is, true_row, paren_p, postfix_p, waits, binary_row}
@@ -137,15 +136,15 @@ unfoldable pub do_p : Place → Node → Place → Rule
 do_p from e p = test (is kinds.Call e) (make p (record_of (row_of kinds.Do from e.number 0 0)) 0) (stop NotACall e.position)
 
 -- what follows the expression of a statement
-abbrev pub assign_as : Text → ℕ → Place → Node → Place → Assignment → Rule
-assign_as s end from e p (Sign op n) = target_p e (bind (call expression n) (λ q v. must (expected s q (end ∷ [])) (λ h m. store_p from op e v m)))
-assign_as s end from e p Absent = must (expected s p (end ∷ [])) (λ h n. do_p from e n)
+abbrev pub assign_as : Text → ℕ → Place → Node → Place → Option Assignment → Rule
+assign_as s end from e p (Some x) = target_p e (bind (call expression x.next) (λ q v. must (expected s q (end ∷ [])) (λ h m. store_p from x.op e v m)))
+assign_as s end from e p None = must (expected s p (end ∷ [])) (λ h n. do_p from e n)
 
 -- by what it begins with
-abbrev pub expr_or_assign_as : Text → ℕ → Place → StepHead → Rule
-expr_or_assign_as s end from (steps.Step op n) = bind (postfix_p s n) (λ q e. increment_p s end from op e q)
-expr_or_assign_as s end from steps.Other = bind (call before_assignment from) (λ q e. assign_as s end from e q (assign_of s q))
-expr_or_assign_as s end from (steps.Wrong k q) = stop k q
+abbrev pub expr_or_assign_as : Text → ℕ → Place → Result StepHead Refused → Rule
+expr_or_assign_as s end from (Ok (steps.Step op n)) = bind (postfix_p s n) (λ q e. increment_p s end from op e q)
+expr_or_assign_as s end from (Ok steps.Other) = bind (call before_assignment from) (λ q e. assign_as s end from e q (assign_of s q))
+expr_or_assign_as s end from (Err e) = stop e.refusal e.at
 
 -- at a place that is past the blanks, which is its position
 unfoldable pub expr_or_assign_p : Text → ℕ → Place → Rule
@@ -206,9 +205,9 @@ unfoldable pub declare_p : Place → ℕ → ℕ → Node → Place → Rule
 declare_p from mark name e p = make p (record_of (let_row from mark name e)) (whole_of name (role_of mark e))
 
 -- by what stands up to its `=`
-abbrev pub let_as : Text → Place → LetHead → Rule
-let_as s from (lets.Named mark name n) = bind (call expression n) (λ q e. must (expected s q (ascii ";")) (λ h m. declare_p from mark name e m))
-let_as s from (lets.Wrong k q) = stop k q
+abbrev pub let_as : Text → Place → Result LetHead Refused → Rule
+let_as s from (Ok t) = bind (call expression t.next) (λ q e. must (expected s q (ascii ";")) (λ h m. declare_p from t.mark t.span e m))
+let_as s from (Err e) = stop e.refusal e.at
 
 -- after `let`
 unfoldable pub let_p : Text → Place → Place → Rule
@@ -228,20 +227,20 @@ fun_statement_p s from p =
 -- ---- statement: return | break | continue | if | loop | while | for | assert | let | fun | block | expr-or-assign
 
 -- by what it begins with
-abbrev pub statement_as : Text → StatementHead → Rule
-statement_as s (head.Return h n) = return_p s h n
-statement_as s (head.Break h n) = jump_p s kinds.Break h n
-statement_as s (head.Continue h n) = jump_p s kinds.Continue h n
-statement_as s (head.If h n) = if_p s h n
-statement_as s (head.Loop h n) = loop_p s h n
-statement_as s (head.While h n) = while_p s h n
-statement_as s (head.For h n) = for_p s h n
-statement_as s (head.Assert h n) = assert_p s h n
-statement_as s (head.Let h n) = let_p s h n
-statement_as s (head.Fun h n) = fun_statement_p s h n
-statement_as s (head.Block h n) = block_p s h n
-statement_as s (head.ExprOrAssign h) = expr_or_assign_p s 59 h
-statement_as s (head.Wrong k q) = stop k q
+abbrev pub statement_as : Text → Result StatementHead Refused → Rule
+statement_as s (Ok (head.Return h n)) = return_p s h n
+statement_as s (Ok (head.Break h n)) = jump_p s kinds.Break h n
+statement_as s (Ok (head.Continue h n)) = jump_p s kinds.Continue h n
+statement_as s (Ok (head.If h n)) = if_p s h n
+statement_as s (Ok (head.Loop h n)) = loop_p s h n
+statement_as s (Ok (head.While h n)) = while_p s h n
+statement_as s (Ok (head.For h n)) = for_p s h n
+statement_as s (Ok (head.Assert h n)) = assert_p s h n
+statement_as s (Ok (head.Let h n)) = let_p s h n
+statement_as s (Ok (head.Fun h n)) = fun_statement_p s h n
+statement_as s (Ok (head.Block h n)) = block_p s h n
+statement_as s (Ok (head.ExprOrAssign h)) = expr_or_assign_p s 59 h
+statement_as s (Err e) = stop e.refusal e.at
 
 -- its position is past the blanks
 unfoldable pub statement_p : Text → Place → Rule

@@ -1,8 +1,9 @@
 -- The rules of the unit, each headed by its production, and the entries: what a call answers to every text and limits. Assumes nothing.
-use Rattle.std.specs.Prelude.{Bool, true, false, ◌&&◌, List, [], ◌∷◌, ℕ, zero, suc, ◌+◌, leb, eqb, length}
+use Rattle.std.specs.Prelude.{Bool, true, false, ◌&&◌, List, [], ◌∷◌, ℕ, zero, suc, ◌+◌, leb, eqb, length, Err, Ok, Result}
 use Rattle.characters.specs.declared.place.Place.{Place}
 use Rattle.characters.specs.declared.place.Span.{Span}
 use Rattle.characters.specs.declared.refusal.Refusal.TheVariants.{LeadingFrom}
+use Rattle.characters.specs.declared.refusal.Refused.{Refused}
 use Rattle.characters.specs.Text.{Text, ascii, start}
 use Rattle.characters.specs.Blanks.{file_start}
 use Rattle.characters.specs.Tokens.{keyword}
@@ -17,8 +18,8 @@ use Rattle.records.specs.declared.row.Row.{Row}
 use Rattle.records.specs.Rows.{record_of}
 use Rattle.records.specs.Words.{span_of, low_of, high_of}
 use Rattle.records.specs.Nodes.{constant, functional}
+use Rattle.grammar.specs.declared.heads.ItemHead.TheVariants.{End, Class, Statement}
 use Rattle.grammar.specs.declared.heads.ItemHead.{ItemHead}
-use Rattle.grammar.specs.declared.heads.ItemHead.TheVariants.{End, Class, Statement, Wrong}
 use Rattle.grammar.specs.Leaves.{row_of}
 use Rattle.grammar.specs.Heads.{item_of}
 use Rattle.grammar.specs.Expressions.{Rule, statement, class, turns, is, stated_row}
@@ -92,13 +93,13 @@ unit_end_p from last p =
     (λ q b. bind (fresh q) (λ r i. make r (record_of (fun_row from i.number 0 0 b.number)) 0))
 
 -- by what the item begins with, and then on
-abbrev pub item_as : Text → Place → Declared → ℕ → ItemHead → (Declared → ℕ → Place → Rule) → Rule
-item_as s from d last (End h) again = unit_end_p from last h
-item_as s from d last (Class h n) again =
+abbrev pub item_as : Text → Place → Declared → ℕ → Result ItemHead Refused → (Declared → ℕ → Place → Rule) → Rule
+item_as s from d last (Ok (End h)) again = unit_end_p from last h
+item_as s from d last (Ok (Class h n)) again =
     bind (call (class h d.classes) n) (λ q c. bind (class_item_p h c last q) (λ r i. again (with_class (span_of c.value) d) i.number r))
-item_as s from d last (Statement h) again =
+item_as s from d last (Ok (Statement h)) again =
     bind (call statement h) (λ q x. bind (unit_item_p s d x last q) (λ r i. again (declares x d) i.number r))
-item_as s from d last (Wrong k q) again = stop k q
+item_as s from d last (Err e) again = stop e.refusal e.at
 
 -- the items of the unit that stands at `from`
 unfoldable pub items_p : ℕ → Text → Place → Declared → ℕ → Place → Rule

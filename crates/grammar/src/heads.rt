@@ -4,14 +4,14 @@ ghost use Rattle.characters.specs.Text.{ByteOf, Stands};
 ghost use Rattle.characters.specs.Names.{name};
 ghost use Rattle.grammar.specs.Heads.{end_of, head_by, head_of, item_by, item_of, name_head, name_of, word_head};
 
-use characters::blanks::{opens_blank, skip, spaces};
+use crate::blanks::past;
 use characters::names::{free_name, is_letter, is_name_byte, name, word};
-use characters::place::{Place, byte};
-use characters::refusal::Refusal;
-use characters::tokens::{Look, Must, sign, spelled};
+use characters::place::{Place, Token, byte};
+use characters::refusal::{Refusal, Refused};
+use characters::tokens::{Look, sign, spelled};
 
 // What a statement begins with: a keyword or `{`, with its place and the place after it, or an expression or assignment.
-#[derive(Clone, Copy)]
+#[derive(Clone, Copy, Debug, PartialEq, Eq)]
 pub enum StatementHead {
     Return { here: Place, next: Place },
     Break { here: Place, next: Place },
@@ -25,88 +25,65 @@ pub enum StatementHead {
     Fun { here: Place, next: Place },
     Block { here: Place, next: Place },
     ExprOrAssign { here: Place },
-    Wrong { refusal: Refusal, at: Place },
 }
 
 // What an expression or assignment statement begins with: `++` or `--` as an operator's number, with the target's place, or an expression.
-#[derive(Clone, Copy)]
+#[derive(Clone, Copy, Debug, PartialEq, Eq)]
 pub enum StepHead {
     Step { op: u32, next: Place },
     Other,
-    Wrong { refusal: Refusal, at: Place },
 }
 
-// What follows the expression of a statement: an assignment sign, with its operator's number or 0 and the place after it, or none.
-#[derive(Clone, Copy)]
-pub enum Assignment {
-    Sign { op: u32, next: Place },
-    Absent,
+// An assignment sign, which may follow the expression of a statement: its operator's number or 0, and the place after it.
+#[derive(Clone, Copy, Debug, PartialEq, Eq)]
+pub struct Assignment {
+    pub op: u32,
+    pub next: Place,
 }
 
 // What follows `let`, up to its `=`: 1 with `var`, else 0; the name as a span; the place after the `=`.
-#[derive(Clone, Copy)]
-pub enum LetHead {
-    Named { mark: u32, span: u32, next: Place },
-    Wrong { refusal: Refusal, at: Place },
+#[derive(Clone, Copy, Debug, PartialEq, Eq)]
+pub struct LetHead {
+    pub mark: u32,
+    pub span: u32,
+    pub next: Place,
 }
 
 // What follows the name of a class, up to its `{`: the parent's name as a span or 0, and the place after the `{`.
-#[derive(Clone, Copy)]
-pub enum ClassHead {
-    Opened { parent: u32, next: Place },
-    Wrong { refusal: Refusal, at: Place },
+#[derive(Clone, Copy, Debug, PartialEq, Eq)]
+pub struct ClassHead {
+    pub parent: u32,
+    pub next: Place,
 }
 
 // What an item of the unit begins with: nothing, at the end of the text; `class`, with its place and the place after it; a statement.
-#[derive(Clone, Copy)]
+#[derive(Clone, Copy, Debug, PartialEq, Eq)]
 pub enum ItemHead {
     End { here: Place },
     Class { here: Place, next: Place },
     Statement { here: Place },
-    Wrong { refusal: Refusal, at: Place },
 }
 
 // The name past the blanks, where reserved words are barred: 11 or 12 at its start.
-pub fn name_of(text: &[u8], at: Place) -> Must
+pub fn name_of(text: &[u8], at: Place) -> Result<Token, Refused>
     requires { Stands text.now at }
     ensures { result ≡ name_of text.now at }
 {
-    let n = spaces(text, at.offset);
-    let near = at.on(n);
-    let first = byte(text, near.offset);
-    if !opens_blank(first) {
-        return free_name(text, near);
-    }
-    let blanks = skip(text, at);
-    match blanks {
-        Must::Failed { refusal, at: q } => Must::Failed { refusal, at: q },
-        Must::Taken { here: _, next } => free_name(text, next),
-    }
+    let front = past(text, at)?;
+    free_name(text, front.here)
 }
 
 // Past the blanks what a statement begins with; `;` is 29.
-pub fn head_of(text: &[u8], at: Place) -> StatementHead
+pub fn head_of(text: &[u8], at: Place) -> Result<StatementHead, Refused>
     requires { Stands text.now at }
     ensures { result ≡ head_of text.now at }
 {
-    let n = spaces(text, at.offset);
-    let near = at.on(n);
-    let first = byte(text, near.offset);
-    if !opens_blank(first) {
-        return head_at(text, near, first);
-    }
-    let blanks = skip(text, at);
-    match blanks {
-        Must::Failed { refusal, at: q } => StatementHead::Wrong { refusal, at: q },
-        Must::Taken { here: _, next } => {
-            let b = byte(text, next.offset);
-            head_at(text, next, b)
-        }
-    }
+    let front = past(text, at)?;
+    head_at(text, front.here, front.byte)
 }
 
 // The statement here, by its first byte `b`.
-fn head_at(text: &[u8], here: Place, b: u32) -> StatementHead
+fn head_at(text: &[u8], here: Place, b: u32) -> Result<StatementHead, Refused>
     requires { Stands text.now here }
     ensures { result ≡ head_by text.now b here }
 {
@@ -114,31 +91,26 @@ fn head_at(text: &[u8], here: Place, b: u32) -> StatementHead
         return name_head(text, here);
     }
     match b {
-        59 => StatementHead::Wrong {
+        59 => Err(Refused {
             refusal: Refusal::ExtraSemicolon,
             at: here,
-        },
+        }),
         123 => {
             let next = here.on(1);
-            StatementHead::Block { here, next }
+            Ok(StatementHead::Block { here, next })
         }
-        _ => StatementHead::ExprOrAssign { here },
+        _ => Ok(StatementHead::ExprOrAssign { here }),
     }
 }
 
 // The statement that begins with the name at `at`: one look at its word decides.
-fn name_head(text: &[u8], at: Place) -> StatementHead
+fn name_head(text: &[u8], at: Place) -> Result<StatementHead, Refused>
     requires { Stands text.now at }
     ensures { result ≡ name_head text.now (name text.now at) }
 {
-    let read = name(text, at);
-    match read {
-        Must::Failed { refusal, at: q } => StatementHead::Wrong { refusal, at: q },
-        Must::Taken { here, next } => {
-            let k = word(text, here.offset, next.offset);
-            word_head(k, here, next)
-        }
-    }
+    let read = name(text, at)?;
+    let k = word(text, read.here.offset, read.next.offset);
+    Ok(word_head(k, read.here, read.next))
 }
 
 // The statement that the word of this number opens; every other name is left to the expression.
@@ -161,39 +133,27 @@ fn word_head(k: u32, here: Place, next: Place) -> StatementHead
 }
 
 // Past the blanks the `}` of a block, or a statement; the end of the text is 19 where it stands before any blanks.
-pub fn end_of(text: &[u8], at: Place) -> Look
+pub fn end_of(text: &[u8], at: Place) -> Result<Look, Refused>
     requires { Stands text.now at }
     ensures { result ≡ end_of text.now at }
 {
     let b = byte(text, at.offset);
     if b == 256 {
-        return Look::Halted {
+        return Err(Refused {
             refusal: Refusal::EndOfInput,
             at,
-        };
+        });
     }
     sign(text, at, b'}')
 }
 
 // Past the blanks what an item of the unit begins with.
-pub fn item_of(text: &[u8], at: Place) -> ItemHead
+pub fn item_of(text: &[u8], at: Place) -> Result<ItemHead, Refused>
     requires { Stands text.now at }
     ensures { result ≡ item_of text.now at }
 {
-    let n = spaces(text, at.offset);
-    let near = at.on(n);
-    let first = byte(text, near.offset);
-    if !opens_blank(first) {
-        return item_at(text, near, first);
-    }
-    let blanks = skip(text, at);
-    match blanks {
-        Must::Failed { refusal, at: q } => ItemHead::Wrong { refusal, at: q },
-        Must::Taken { here: _, next } => {
-            let b = byte(text, next.offset);
-            item_at(text, next, b)
-        }
-    }
+    let front = past(text, at)?;
+    Ok(item_at(text, front.here, front.byte))
 }
 
 // The item here, by its first byte `b`: only where it is a `c` is the keyword compared.

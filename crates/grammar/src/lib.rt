@@ -3,6 +3,7 @@
 
 pub mod assignments;
 pub mod atoms;
+pub mod blanks;
 pub mod declarations;
 pub mod heads;
 pub mod leaves;

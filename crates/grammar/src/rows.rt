@@ -3,7 +3,7 @@ ghost use Rattle.std.specs.Prelude.{◌≡◌, ◌≤◌};
 ghost use Rattle.reading.specs.Entry.{nowhere};
 ghost use Rattle.grammar.specs.Leaves.{leaf_row, row_of};
 ghost use Rattle.grammar.specs.Expressions.{pair_row};
-ghost use Rattle.grammar.specs.Functions.{fun_row};
+ghost use Rattle.grammar.specs.Functions.{fun_row, name_word};
 ghost use Rattle.grammar.specs.Classes.{class_row};
 
 use characters::place::{Place, Span};
@@ -11,6 +11,18 @@ use records::ids::{ClassId, FunId};
 use records::kind::Kind;
 use records::row::Row;
 use records::words::{high, low, pack};
+
+// A name from one place to another, as a row holds it.
+pub fn name_word(here: Place, next: Place) -> u32
+    requires { (here.offset ≤ 65535) × (next.offset ≤ 65535) }
+    ensures { result ≡ name_word here next }
+{
+    let span = Span {
+        from: here.offset,
+        to: next.offset,
+    };
+    pack(span)
+}
 
 // A row with a kind, a position and up to three fields.
 pub fn row(kind: Kind, position: Place, a: u32, b: u32, c: u32) -> Row
@@ -72,11 +84,10 @@ pub fn leaf_row(kind: Kind, position: Place, value: u64) -> Row
 pub fn fun_row(position: Place, id: FunId, name: u32, params: u32, body: u32) -> Row
     ensures { result ≡ fun_row position id.0 name params body }
 {
-    let a = id.number();
     Row {
         kind: Kind::Fun,
         position,
-        a,
+        a: u32::from(id),
         b: name,
         c: params,
         d: body,
@@ -87,11 +98,10 @@ pub fn fun_row(position: Place, id: FunId, name: u32, params: u32, body: u32) ->
 pub fn class_row(position: Place, id: ClassId, name: u32, parent: u32, methods: u32) -> Row
     ensures { result ≡ class_row position id.0 name parent methods }
 {
-    let a = id.number();
     Row {
         kind: Kind::Class,
         position,
-        a,
+        a: u32::from(id),
         b: name,
         c: parent,
         d: methods,

@@ -10,9 +10,7 @@ use reading::answer::Answer;
 // (listing/specs/Promises.antt, `line_short`), so none is cut.
 pub fn list(text: &[u8], pool: &[u32], answer: Answer) -> bool {
     let mut sheet = [0u8; 262209];
-    let mut number: u32 = 0;
-    while number < answer.records {
-        number += 1;
+    for number in 1..=answer.records {
         if !write_record(&mut sheet, text, pool, number) {
             return false;
         }

@@ -1,6 +1,6 @@
 -- THE LISTING: the line of each record, out of its row and the text, and the last line. What a field means stands in the table of kinds;
 -- here stands how each meaning prints. Assumes nothing.
-use Rattle.std.specs.Prelude.{Bool, true, false, ◌||◌, List, [], ◌∷◌, ◌++◌, ℕ, zero, suc, ◌+◌, ◌-◌, ◌/◌, ◌%◌, ltb, eqb, length, get_or}
+use Rattle.std.specs.Prelude.{Bool, true, false, ◌||◌, List, [], ◌∷◌, ◌++◌, ℕ, zero, suc, ◌+◌, ◌-◌, ◌/◌, ◌%◌, ltb, eqb, length, get_or, None, Option, Some}
 use Rattle.characters.specs.declared.place.Place.{Place}
 use Rattle.characters.specs.Text.{Text, ascii, start, on_by}
 use Rattle.characters.specs.Names.{part, same}
@@ -10,8 +10,6 @@ use Rattle.reading.specs.declared.answer.Answer.{Answer}
 use Rattle.records.specs.declared.kind.Kind.{Kind}
 use Rattle.records.specs.declared.kind.Kind.TheVariants as kinds
 use Rattle.records.specs.declared.row.Row.{Row}
-use Rattle.records.specs.declared.row.RowAt.{RowAt}
-use Rattle.records.specs.declared.row.RowAt.TheVariants.{Here, Nothing}
 use Rattle.records.specs.Kinds.{Meaning, expression, statement, function, class, items, span, low, high, mark, operator, id, number, unused, shape, number_of, meaning_at}
 use Rattle.records.specs.Words.{span_of, whole_of}
 use Rattle.records.specs.Rows.{row_at}
@@ -206,9 +204,9 @@ fields s w =
 unfoldable pub line_of : Text → ℕ → Row → Text
 line_of s n w = decimal n ++ (32 ∷ name_of w.kind) ++ positioned w.kind w.position ++ fields s w ++ (10 ∷ [])
 
-abbrev pub line_by : Text → ℕ → RowAt → Text
-line_by s n (Here w) = line_of s n w
-line_by s n Nothing = decimal n ++ (ascii " ?" ++ (10 ∷ []))
+abbrev pub line_by : Text → ℕ → Option Row → Text
+line_by s n (Some w) = line_of s n w
+line_by s n None = decimal n ++ (ascii " ?" ++ (10 ∷ []))
 
 -- The line of the record with this number. Where the pool has no such record, a `?` stands for it.
 unfoldable pub line_at : Text → List ℕ → ℕ → Text

@@ -1,5 +1,5 @@
 // Fields, each with the space before it.
-ghost use Rattle.std.specs.Prelude.{◌≡◌, [], ◌∷◌, ◌++◌, get_or, drop};
+ghost use Rattle.std.specs.Prelude.{◌≡◌, [], ◌∷◌, ◌++◌, get_or};
 ghost use Rattle.records.specs.Words.{whole_of};
 ghost use Rattle.listing.specs.Sheets.{Writes, sheet};
 ghost use Rattle.listing.specs.Listing.{bytes, decimal, field, minus, name, quoted, signed, spanned};
@@ -12,7 +12,7 @@ use literals::strings::part;
 use records::words::{unpack, whole};
 
 // How a field prints.
-#[derive(Clone, Copy)]
+#[derive(Clone, Copy, Debug, PartialEq, Eq)]
 pub enum Form {
     // Not at all.
     Hidden,
@@ -108,51 +108,43 @@ fn int(out: &mut [u8], at: usize, low: u32, high: u32) -> usize
     signed(out, next, value)
 }
 
-// Where the word with this number begins, from 0 on, of words that a space ends each; the end where there are fewer.
-fn word_start(words: &[u8], n: u32) -> usize
-    ensures { drop result words.now ≡ past_words n words.now }
+// What stands from the word with this number on, from 0 on, of words that a space ends each; nothing where there are fewer.
+fn words_from(words: &[u8], n: u32) -> &[u8]
+    ensures { result.now ≡ past_words n words.now }
 {
     let mut left = n;
-    let mut i: usize = 0;
-    while 0 < left {
-        if words.len() <= i {
-            return i;
+    for i in 0..words.len() {
+        if left == 0 {
+            return &words[i..];
         }
-        let b = words[i];
-        if b == 32 {
+        if words[i] == 32 {
             left -= 1;
         }
-        i += 1;
     }
-    i
+    &[]
 }
 
-// The word that begins here, up to its space.
-fn word_from(out: &mut [u8], at: usize, words: &[u8], from: usize) -> usize
-    ensures { Writes (up_to_space (drop from words.now)) (sheet out.old at) (sheet out.new result) }
+// The first word, up to its space.
+fn first_word(out: &mut [u8], at: usize, words: &[u8]) -> usize
+    ensures { Writes (up_to_space words.now) (sheet out.old at) (sheet out.new result) }
 {
     let mut next = at;
-    let mut i = from;
-    loop {
-        if words.len() <= i {
-            return next;
-        }
-        let b = words[i];
+    for &b in words {
         if b == 32 {
             return next;
         }
         next = put(out, next, b);
-        i += 1;
     }
+    next
 }
 
 // The word with this number, from 0 on, with a space before it; nothing more where there are fewer.
 pub fn word(out: &mut [u8], at: usize, words: &[u8], n: u32) -> usize
     ensures { Writes (32 ∷ get_or (split words.now) n []) (sheet out.old at) (sheet out.new result) }
 {
-    let from = word_start(words, n);
+    let rest = words_from(words, n);
     let next = put(out, at, 32);
-    word_from(out, next, words, from)
+    first_word(out, next, rest)
 }
 
 // A field out of its word and the next.

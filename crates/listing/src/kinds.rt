@@ -14,7 +14,7 @@ use records::kind::Kind;
 pub fn title(out: &mut [u8], at: usize, kind: Kind) -> usize
     ensures { Writes (32 ∷ name_of kind) (sheet out.old at) (sheet out.new result) }
 {
-    let number = kind.number();
+    let number = u32::from(kind);
     word(
         out,
         at,
@@ -29,7 +29,7 @@ fn letter(kind: Kind, i: u32) -> u32
     requires { i < 5 }
     ensures { result ≡ get_or (letters kind) i 256 }
 {
-    let number = kind.number();
+    let number = u32::from(kind);
     let at = number * 6 + i;
     byte(
         b"..... p.... p.... p.... pi... pf... ps... px... pn... pn... pm... pm... pn... pnn.. pnm.. pnm.. pun.. ponn. pnnn. pnn.. pn... pnn.. pn... pn... p.... p.... pn... pnnn. pnnnn pnmn. pn... pnmnn pnmmn .nn.. .mn.. .nns. .nnn. .nn.. .nn.. ",

@@ -8,7 +8,7 @@ use crate::numbers::{decimal, place};
 use crate::sheet::{copy, put};
 use reading::answer::Answer;
 use records::pool::row_at;
-use records::row::{Row, RowAt};
+use records::row::Row;
 
 // The four fields of a record.
 fn fields(out: &mut [u8], at: usize, text: &[u8], row: Row) -> usize
@@ -38,10 +38,9 @@ fn line_of(out: &mut [u8], at: usize, text: &[u8], number: u32, row: Row) -> usi
 pub fn line(out: &mut [u8], at: usize, text: &[u8], pool: &[u32], number: u32) -> usize
     ensures { Writes (line_at text.now pool.now number) (sheet out.old at) (sheet out.new result) }
 {
-    let found = row_at(pool, number);
-    match found {
-        RowAt::Here { row } => line_of(out, at, text, number, row),
-        RowAt::Nothing => {
+    match row_at(pool, number) {
+        Some(row) => line_of(out, at, text, number, row),
+        None => {
             let next = decimal(out, at, number as u64);
             copy(out, next, b" ?\n")
         }

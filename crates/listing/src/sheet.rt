@@ -18,10 +18,8 @@ pub fn copy(out: &mut [u8], at: usize, bytes: &[u8]) -> usize
     ensures { Writes bytes.now (sheet out.old at) (sheet out.new result) }
 {
     let mut next = at;
-    let mut i: usize = 0;
-    while i < bytes.len() {
-        next = put(out, next, bytes[i]);
-        i += 1;
+    for &b in bytes {
+        next = put(out, next, b);
     }
     next
 }

@@ -7,9 +7,8 @@ ghost use Rattle.listing.specs.Laws.Texts.{Shuts, pairs_from};
 
 use crate::sheet::{copy, put};
 use characters::place::{Place, Span};
-use characters::tokens::Must;
 use literals::bytearrays::{Mode, Seen, bytearray, step};
-use literals::strings::{Spelled, key, piece};
+use literals::strings::{key, piece};
 
 // One decoded character of a string, in UTF-8.
 pub fn character(out: &mut [u8], at: usize, v: u32) -> usize
@@ -40,18 +39,11 @@ fn spelled(out: &mut [u8], at: usize, inner: &[u8]) -> usize
 {
     let mut next = at;
     let mut i: u32 = 0;
-    loop {
-        let p = piece(inner, i);
-        match p {
-            Spelled::End => {
-                return next;
-            }
-            Spelled::Char { value, next: j } => {
-                next = character(out, next, value);
-                i = j;
-            }
-        }
+    while let Some(found) = piece(inner, i) {
+        next = character(out, next, found.value);
+        i = found.next;
     }
+    next
 }
 
 // What a string with its quotes, or a key, spells, between double quotes.
@@ -95,9 +87,8 @@ fn pairs(out: &mut [u8], at: usize, text: &[u8], from: Place) -> usize
     let mut p = from;
     let mut mode = Mode::Between;
     let mut last: u32 = 256;
-    loop {
-        let s = step(text, mode, last, p);
-        match s {
+    while let Ok(seen) = step(text, mode, last, p) {
+        match seen {
             Seen::Byte {
                 value,
                 mode: run,
@@ -115,11 +106,9 @@ fn pairs(out: &mut [u8], at: usize, text: &[u8], from: Place) -> usize
             Seen::Shut { next: _ } => {
                 return next;
             }
-            Seen::Refused { refusal: _, at: _ } => {
-                return next;
-            }
         }
     }
+    next
 }
 
 // The bytes of a bytearray with its `#[`; none where it is refused.
@@ -135,9 +124,8 @@ pub fn bytes(out: &mut [u8], at: usize, text: &[u8]) -> usize
         line: 1,
         column: 3,
     };
-    let read = bytearray(text, from);
-    match read {
-        Must::Failed { refusal: _, at: _ } => at,
-        Must::Taken { here: _, next: _ } => pairs(out, at, text, from),
+    match bytearray(text, from) {
+        Ok(_) => pairs(out, at, text, from),
+        Err(_) => at,
     }
 }

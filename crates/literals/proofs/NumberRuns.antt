@@ -13,11 +13,14 @@ use Rattle.characters.specs.declared.refusal.Refusal.{Refusal}
 use Rattle.characters.specs.declared.refusal.Refusal.TheVariants.{IntegerTooLarge, MisplacedSeparator}
 use Rattle.characters.specs.Text.{Text, byte_at, on_by, Stands}
 use Rattle.characters.specs.PlaceLaws.{in_text, from_byte, from_end, front, on_by_stands}
-use Rattle.literals.specs.declared.numbers.Run.{Run}
-use Rattle.literals.specs.declared.numbers.Run.TheVariants.{Digits, Broken}
 use Rattle.literals.specs.Numbers.{digit_of, reaches, run, digits}
 use Rattle.literals.specs.NumberSums.{Base, Power, two, sixteen, held, held_run, fewer_of}
 use Rattle.literals.specs.NumberLaws.{digit_ascii, run_digit, run_full, run_separator, run_broken, run_end}
+use Rattle.std.specs.Prelude.{Result}
+use Rattle.characters.specs.Answers.{failed}
+use Rattle.characters.specs.declared.refusal.Refused.{Refused}
+use Rattle.literals.specs.Answers.{digits_to}
+use Rattle.literals.specs.declared.numbers.Digits.{Digits}
 
 -- ---- the sum
 
@@ -146,14 +149,14 @@ room_digit {r} {v} {n} d w h k (tight p a b) = rw (fewer_later (held v) n r d (h
 -- ---- the loops
 
 -- what a loop over digits keeps: the answer is that of what is left, with the sum so far
-pub record Going (limited : Bool) (r : ℕ) (s : Text) (answer : Run) (v n : ℕ) (p : Place) : Type 0 where
+pub record Going (limited : Bool) (r : ℕ) (s : Text) (answer : Result Digits Refused) (v n : ℕ) (p : Place) : Type 0 where
   pub total : ℕ
   pub holds : v ≡ held total
   pub room : T limited → Room (2 ^ 127) r total n
   pub same : held_run (run limited r total (drop p.offset s) p) ≡ answer
   pub stands : Stands s p
 
-pub going_start : {limited : Bool} {r : ℕ} {s : Text} {a : Run} {p : Place} {n : ℕ}
+pub going_start : {limited : Bool} {r : ℕ} {s : Text} {a : Result Digits Refused} {p : Place} {n : ℕ}
     → held_run (run limited r 0 (drop p.offset s) p) ≡ a
     → Stands s p
     → 0 < n
@@ -176,13 +179,13 @@ pub digits_none : {none : Refusal} {r : ℕ} {p : Place} {b f : ℕ} (limited : 
     → b ≡ byte_at s p.offset
     → f ≡ digit_of b
     → r ≤ f
-    → Broken none p ≡ held_run (digits limited none r s p)
+    → failed none p ≡ held_run (digits limited none r s p)
 unfolding digits
 digits_none {none} {r} {p} {b} {f} limited s e d k =
     let t : r ≤ digit_of (byte_at s p.offset) = subst (λ (x : ℕ). r ≤ x) (d ∙ ap digit_of e) k in
     rw (le-ltb (digit_of (byte_at s p.offset)) r t, digits) refl
 
-going_on : {limited : Bool} {r : ℕ} {s : Text} {a : Run} {v n v' n' : ℕ} {p : Place} (g : Going limited r s a v n p) (b : ℕ)
+going_on : {limited : Bool} {r : ℕ} {s : Text} {a : Result Digits Refused} {v n v' n' : ℕ} {p : Place} (g : Going limited r s a v n p) (b : ℕ)
     → b ≡ byte_at s p.offset
     → digit_of b < r
     → r ≤ 16
@@ -203,7 +206,7 @@ going_on {limited} {r} {s} {a} {v} {n} {v'} {n'} {p} g b e h k f w q =
       stands = (on_by_stands s 1 p g.stands (omega arith)).stands;
     }
 
-pub going_decimal : {s : Text} {a : Run} {v n v' b d : ℕ} {p p' : Place}
+pub going_decimal : {s : Text} {a : Result Digits Refused} {v n v' b d : ℕ} {p p' : Place}
     → Going false 10 s a v n p
     → b ≡ byte_at s p.offset
     → d ≡ digit_of b
@@ -214,7 +217,7 @@ pub going_decimal : {s : Text} {a : Run} {v n v' b d : ℕ} {p p' : Place}
 going_decimal {s} {a} {v} {n} {v'} {b} {d} {p} g e f h q z =
     rw z (going_on g b e (subst (λ (x : ℕ). x < 10) f h) (omega arith) refl (λ u. absurd u) (q ∙ ap (λ (x : ℕ). held (v * 10 + x)) f))
 
-pub going_limited : {r m : ℕ} {s : Text} {a : Run} {v n v' n' b d : ℕ} {p p' : Place}
+pub going_limited : {r m : ℕ} {s : Text} {a : Result Digits Refused} {v n v' n' b d : ℕ} {p p' : Place}
     → Going true r s a v n p
     → Power r
     → Base r m
@@ -236,14 +239,14 @@ going_limited {r} {m} {s} {a} {v} {n} {v'} {n'} {b} {d} {p} g w base e f h k c q
     (λ u. rw count room)
     (q ∙ ap (λ (y : ℕ). held (v * r + y)) f))
 
-pub going_full : {r : ℕ} {s : Text} {a : Run} {v n b d : ℕ} {p : Place}
+pub going_full : {r : ℕ} {s : Text} {a : Result Digits Refused} {v n b d : ℕ} {p : Place}
     → Going true r s a v n p
     → Power r
     → b ≡ byte_at s p.offset
     → d ≡ digit_of b
     → d < r
     → n ≡ 0
-    → Broken IntegerTooLarge p ≡ a
+    → failed IntegerTooLarge p ≡ a
 going_full {r} {s} {a} {v} {n} {b} {d} {p} g w e f h k =
     let x : digit_of b < r = subst (λ (x : ℕ). x < r) f h in
     let low : b < 128 = digit_ascii b (small w x) in
@@ -259,7 +262,7 @@ follows : (s : Text) (p p' : Place) (c : ℕ) → p' ≡ on_by 1 p → c ≡ byt
 follows s p p' c o i = i ∙ ap (λ (x : Place). byte_at s x.offset) o ∙ sym (front s (p.offset + 1))
 
 -- past a `_` that a digit follows
-pub going_past : {limited : Bool} {r : ℕ} {s : Text} {a : Run} {v n b d c f : ℕ} {p p' : Place}
+pub going_past : {limited : Bool} {r : ℕ} {s : Text} {a : Result Digits Refused} {v n b d c f : ℕ} {p p' : Place}
     → Going limited r s a v n p
     → b ≡ byte_at s p.offset
     → d ≡ digit_of b
@@ -284,7 +287,7 @@ going_past {limited} {r} {s} {a} {v} {n} {b} {d} {c} {f} {p} {p'} g e q k z o i 
       stands = (on_by_stands s 1 p g.stands (omega arith)).stands;
     })
 
-pub going_broken : {limited : Bool} {r : ℕ} {s : Text} {a : Run} {v n b d c f : ℕ} {p p' : Place}
+pub going_broken : {limited : Bool} {r : ℕ} {s : Text} {a : Result Digits Refused} {v n b d c f : ℕ} {p p' : Place}
     → Going limited r s a v n p
     → b ≡ byte_at s p.offset
     → d ≡ digit_of b
@@ -294,27 +297,27 @@ pub going_broken : {limited : Bool} {r : ℕ} {s : Text} {a : Run} {v n b d c f 
     → c ≡ byte_at s p'.offset
     → f ≡ digit_of c
     → r ≤ f
-    → Broken MisplacedSeparator p ≡ a
+    → failed MisplacedSeparator p ≡ a
 going_broken {limited} {r} {s} {a} {v} {n} {b} {d} {c} {f} {p} {p'} g e q k z o i j l =
     let cons = from_byte s p.offset b e (omega arith) in
     let next : r ≤ digit_of (byte_at (drop (p.offset + 1) s) 0) = subst (λ (x : ℕ). r ≤ x) (j ∙ ap digit_of (follows s p p' c o i)) l in
     let go = ap (λ (l : Text). run limited r g.total l p) cons ∙ run_broken limited r g.total b (drop (p.offset + 1) s) p (subst (λ (x : ℕ). r ≤ x) q k) z next in
     sym (ap held_run go) ∙ g.same
 
-pub going_end : {limited : Bool} {r : ℕ} {s : Text} {a : Run} {v n b d : ℕ} {p : Place}
+pub going_end : {limited : Bool} {r : ℕ} {s : Text} {a : Result Digits Refused} {v n b d : ℕ} {p : Place}
     → Going limited r s a v n p
     → b ≡ byte_at s p.offset
     → d ≡ digit_of b
     → r ≤ d
     → (b ≡ 95 → ⊥)
-    → Digits v p ≡ a
+    → digits_to v p ≡ a
 unfolding run
-going_end {limited} {r} {s} {a} {v} {n} {b} {d} {p} g e q k z = ap (λ (x : ℕ). Digits x p) g.holds ∙ sym (ap held_run (go (ltb o (length s)) refl)) ∙ g.same
+going_end {limited} {r} {s} {a} {v} {n} {b} {d} {p} g e q k z = ap (λ (x : ℕ). digits_to x p) g.holds ∙ sym (ap held_run (go (ltb o (length s)) refl)) ∙ g.same
   where
     o : ℕ
     o = p.offset
 
-    go : (t : Bool) → ltb o (length s) ≡ t → run limited r g.total (drop o s) p ≡ Digits g.total p
+    go : (t : Bool) → ltb o (length s) ≡ t → run limited r g.total (drop o s) p ≡ digits_to g.total p
     go true h =
         ap (λ (l : Text). run limited r g.total l p) (drop-cons s o 256 (ltb-true o (length s) h))
         ∙ run_end limited r g.total (byte_at s o) (drop (suc o) s) p (subst (λ (x : ℕ). r ≤ x) (q ∙ ap digit_of e) k) (λ w. z (e ∙ w))

@@ -1,5 +1,5 @@
 -- Laws of bytearrays: what each byte leads to, that each step goes on in the text, and that the steps make up the whole. Assumes nothing.
-use Rattle.std.specs.Prelude.{◌≡◌, Bool, ◌&&◌, ◌||◌, length}
+use Rattle.std.specs.Prelude.{◌≡◌, Bool, ◌&&◌, ◌||◌, length, Err, Ok, Result}
 use Rattle.std.proofs.Math.Path.{refl, sym, ap, subst, subst⁻¹}
 use Rattle.std.proofs.Common.{◌∙◌}
 use Rattle.std.proofs.Math.Bool.{true, false, not, and-eq-true_iff}
@@ -14,8 +14,6 @@ use borrow.Author.Tests.{ltb-true, ltb-false, leb-true, eqb-true, lt-ltb, le-ltb
 use Rattle.characters.specs.declared.place.Place.{Place}
 use Rattle.characters.specs.declared.refusal.Refusal.{Refusal}
 use Rattle.characters.specs.declared.refusal.Refusal.TheVariants.{EndOfInput, BadByteArray}
-use Rattle.characters.specs.declared.tokens.Must.{Must}
-use Rattle.characters.specs.declared.tokens.Must.TheVariants.{Taken, Failed}
 use Rattle.characters.specs.Text.{Text, byte_at, ByteOf, on_by, next, Stands}
 use Rattle.characters.specs.PlaceLaws.{Reached, Advanced, reached_here, reached_on, advanced_on, advanced_reached, in_text, at_end, from_end, on_by_stands}
 use Rattle.characters.specs.Blanks.{blanks, pass}
@@ -26,9 +24,13 @@ use Rattle.literals.specs.StringLaws.{letter_byte}
 use Rattle.literals.specs.NumberLaws.{digit_ascii, choice}
 use Rattle.literals.specs.declared.bytearrays.Mode.{Mode}
 use Rattle.literals.specs.declared.bytearrays.Mode.TheVariants.{Between, Ascii, Hex, Binary}
-use Rattle.literals.specs.declared.bytearrays.Seen.{Seen}
-use Rattle.literals.specs.declared.bytearrays.Seen.TheVariants.{Byte, Opened, Shut, Refused}
+use Rattle.literals.specs.declared.bytearrays.Seen.TheVariants.{Byte, Opened, Shut}
 use Rattle.literals.specs.ByteArrays.{unknown, opening_by, opening, outside_by, outside, past_blanks, between, plain, coded, mark_by, mark, slash_by, slash, line_end, printed, ascii_by, ascii, is_alphanumeric, pair_by, pair, hex, bit_of, bits, eight, binary, step, Contents, shut, halted, push, read, contents, span_by, bytearray}
+use Rattle.literals.specs.Answers.{taken_here}
+use Rattle.characters.specs.Answers.{Must, failed, taken, taken_next}
+use Rattle.characters.specs.declared.refusal.Refused.{Refused}
+use Rattle.characters.specs.declared.place.Token.{Token}
+use Rattle.literals.specs.declared.bytearrays.Seen.{Seen}
 
 -- ---- letters and digits
 
@@ -77,39 +79,39 @@ module _ (s : Text) (p : Place) where
   unfolding outside
   outside_at k e h = ap (outside_by s p) (sym h ∙ e.is)
 
-  pub outside_not : {b : ℕ} → ByteOf s p.offset b → (b ≡ 256 → ⊥) → (b ≡ 93 → ⊥) → (b ≡ 92 → ⊥) → Refused BadByteArray (next s p) ≡ outside s p
+  pub outside_not : {b : ℕ} → ByteOf s p.offset b → (b ≡ 256 → ⊥) → (b ≡ 93 → ⊥) → (b ≡ 92 → ⊥) → failed BadByteArray (next s p) ≡ outside s p
   outside_not {b} e x y z = go (ne_eqb b 256 x) (ne_eqb b 93 y) (ne_eqb b 92 z) ∙ outside_at b e refl
     where
-      go : eqb b 256 ≡ false → eqb b 93 ≡ false → eqb b 92 ≡ false → Refused BadByteArray (next s p) ≡ outside_by s p b
+      go : eqb b 256 ≡ false → eqb b 93 ≡ false → eqb b 92 ≡ false → failed BadByteArray (next s p) ≡ outside_by s p b
       go x y z = rw (x, y, z, outside_by)
 
   marks : {b : ℕ} → ByteOf s (p.offset + 1) b → mark_by s p b ≡ mark s p
   unfolding mark
   marks e = ap (mark_by s p) e.is
 
-  pub mark_letter : {b v : ℕ} {r : Seen} → ByteOf s (p.offset + 1) b → v ≡ letter_of b → v < 256 → r ≡ coded v p → r ≡ mark s p
-  mark_letter {b} {v} e f h z = z ∙ ap (λ (k : ℕ). coded k p) f ∙ go (lt-ltb (letter_of b) 256 (omega arith)) ∙ marks e
+  pub mark_letter : {b v : ℕ} {r : Seen} → ByteOf s (p.offset + 1) b → v ≡ letter_of b → v < 256 → r ≡ coded v p → Ok r ≡ mark s p
+  mark_letter {b} {v} e f h z = ap Ok z ∙ ap (λ (k : ℕ). Ok (coded k p)) f ∙ go (lt-ltb (letter_of b) 256 (omega arith)) ∙ marks e
     where
-      go : ltb (letter_of b) 256 ≡ true → coded (letter_of b) p ≡ mark_by s p b
+      go : ltb (letter_of b) 256 ≡ true → Ok (coded (letter_of b) p) ≡ mark_by s p b
       go t = rw (t, mark_by)
 
   module _ {b v : ℕ} (e : ByteOf s (p.offset + 1) b) (f : v ≡ letter_of b) (h : 256 ≤ v) where
     no_letter : ltb (letter_of b) 256 ≡ false
     no_letter = le-ltb (letter_of b) 256 (omega arith)
 
-    pub mark_hex : {r : Seen} → b ≡ 120 → r ≡ between s p → r ≡ mark s p
+    pub mark_hex : {r : Result Seen Refused} → b ≡ 120 → r ≡ between s p → r ≡ mark s p
     mark_hex k z = z ∙ go no_letter (eq-eqb b 120 k) ∙ marks e
       where
         go : ltb (letter_of b) 256 ≡ false → eqb b 120 ≡ true → between s p ≡ mark_by s p b
         go t u = rw (t, u, mark_by)
 
-    pub mark_binary : {r : Seen} → b ≡ 98 → r ≡ between s p → r ≡ mark s p
+    pub mark_binary : {r : Result Seen Refused} → b ≡ 98 → r ≡ between s p → r ≡ mark s p
     mark_binary k z = z ∙ go no_letter (ne_eqb b 120 (λ w. omega arith)) (eq-eqb b 98 k) ∙ marks e
       where
         go : ltb (letter_of b) 256 ≡ false → eqb b 120 ≡ false → eqb b 98 ≡ true → between s p ≡ mark_by s p b
         go t u x = rw (t, u, x, mark_by)
 
-    pub mark_not : {r : Seen} → (b ≡ 120 → ⊥) → (b ≡ 98 → ⊥) → r ≡ unknown s p → r ≡ mark s p
+    pub mark_not : {r : Result Seen Refused} → (b ≡ 120 → ⊥) → (b ≡ 98 → ⊥) → r ≡ unknown s p → r ≡ mark s p
     mark_not k l z = z ∙ go no_letter (ne_eqb b 120 k) (ne_eqb b 98 l) ∙ marks e
       where
         go : ltb (letter_of b) 256 ≡ false → eqb b 120 ≡ false → eqb b 98 ≡ false → unknown s p ≡ mark_by s p b
@@ -119,13 +121,13 @@ module _ (s : Text) (p : Place) where
   unfolding slash
   slash_at k e h = ap (slash_by s p) (sym h ∙ e.is)
 
-  pub slash_not : {b : ℕ} → ByteOf s (p.offset + 1) b → (b ≡ 47 → ⊥) → (b ≡ 42 → ⊥) → plain 47 p ≡ slash s p
+  pub slash_not : {b : ℕ} → ByteOf s (p.offset + 1) b → (b ≡ 47 → ⊥) → (b ≡ 42 → ⊥) → Ok (plain 47 p) ≡ slash s p
   slash_not {b} e x y = go (ne_eqb b 47 x) (ne_eqb b 42 y) ∙ slash_at b e refl
     where
-      go : eqb b 47 ≡ false → eqb b 42 ≡ false → plain 47 p ≡ slash_by s p b
+      go : eqb b 47 ≡ false → eqb b 42 ≡ false → Ok (plain 47 p) ≡ slash_by s p b
       go x y = rw (x, y, slash_by)
 
-  pub line_space : (last : ℕ) → last ≡ 32 → Refused BadByteArray p ≡ line_end s last p
+  pub line_space : (last : ℕ) → last ≡ 32 → failed BadByteArray p ≡ line_end s last p
   unfolding line_end
   line_space last h = rw (eq-eqb last 32 h, line_end)
 
@@ -137,7 +139,7 @@ module _ (s : Text) (p : Place) where
   unfolding printed
   print_low b h = rw (lt-leb 32 b h, printed)
 
-  pub print_plain : (b : ℕ) → 32 ≤ b → b < 127 → (b ≡ 93 → ⊥) → plain b p ≡ printed s b p
+  pub print_plain : (b : ℕ) → 32 ≤ b → b < 127 → (b ≡ 93 → ⊥) → Ok (plain b p) ≡ printed s b p
   unfolding printed
   print_plain b l h n = rw (le-leb 32 b l, le-leb b 126 (omega arith), ne_eqb b 93 n, printed)
 
@@ -160,44 +162,44 @@ module _ (s : Text) (p : Place) where
       go t1 t2 t3 t4 t5 = rw (t1, t2, t3, t4, t5, ascii_by)
 
   -- past the blanks
-  pub between_taken : {m : Must} {h q : Place} → m ≡ blanks s p → m ≡ Taken h q → outside s q ≡ between s p
+  pub between_taken : {m : Must} {h q : Place} → m ≡ blanks s p → m ≡ taken h q → outside s q ≡ between s p
   unfolding between
   between_taken e k = sym (ap (past_blanks (outside s)) (sym e ∙ k))
 
-  pub between_failed : {m : Must} {k : Refusal} {q : Place} → m ≡ blanks s p → m ≡ Failed k q → Refused k q ≡ between s p
+  pub between_failed : {m : Must} {k : Refusal} {q : Place} → m ≡ blanks s p → m ≡ failed k q → failed k q ≡ between s p
   unfolding between
   between_failed e k = sym (ap (past_blanks (outside s)) (sym e ∙ k))
 
-  pub hex_taken : {m : Must} {h q : Place} → m ≡ blanks s p → m ≡ Taken h q → pair s q ≡ hex s p
+  pub hex_taken : {m : Must} {h q : Place} → m ≡ blanks s p → m ≡ taken h q → pair s q ≡ hex s p
   unfolding hex
   hex_taken e k = sym (ap (past_blanks (pair s)) (sym e ∙ k))
 
-  pub hex_failed : {m : Must} {k : Refusal} {q : Place} → m ≡ blanks s p → m ≡ Failed k q → Refused k q ≡ hex s p
+  pub hex_failed : {m : Must} {k : Refusal} {q : Place} → m ≡ blanks s p → m ≡ failed k q → failed k q ≡ hex s p
   unfolding hex
   hex_failed e k = sym (ap (past_blanks (pair s)) (sym e ∙ k))
 
-  pub binary_taken : {m : Must} {h q : Place} → m ≡ blanks s p → m ≡ Taken h q → eight s q ≡ binary s p
+  pub binary_taken : {m : Must} {h q : Place} → m ≡ blanks s p → m ≡ taken h q → eight s q ≡ binary s p
   unfolding binary
   binary_taken e k = sym (ap (past_blanks (eight s)) (sym e ∙ k))
 
-  pub binary_failed : {m : Must} {k : Refusal} {q : Place} → m ≡ blanks s p → m ≡ Failed k q → Refused k q ≡ binary s p
+  pub binary_failed : {m : Must} {k : Refusal} {q : Place} → m ≡ blanks s p → m ≡ failed k q → failed k q ≡ binary s p
   unfolding binary
   binary_failed e k = sym (ap (past_blanks (eight s)) (sym e ∙ k))
 
-  pub blanks_stand : {m : Must} {h q : Place} → Stands s p → m ≡ blanks s p → m ≡ Taken h q → Stands s q
-  blanks_stand {m} {h} {q} st e k = (subst (PassedOn s p p) (sym e ∙ k) (blanks_on s p st)).1.stands
+  pub blanks_stand : {t : Token} → Stands s p → Ok t ≡ blanks s p → Stands s t.next
+  blanks_stand st e = (subst (PassedOn s p p) (sym e) (blanks_on s p st)).1.stands
 
   -- ---- `\x`
 
   pub pair_outside : {b : ℕ} → ByteOf s p.offset b → is_alphanumeric b ≡ false → outside s p ≡ pair s p
   unfolding pair
-  pair_outside {b} e h = sym (ap (λ (t : Bool). elim t as (λ u. Seen) [ true ↦ pair_by s p (digit_of (byte_at s p.offset)) (digit_of (byte_at s (p.offset + 1))) | false ↦ outside s p ]) (ap is_alphanumeric (sym e.is) ∙ h))
+  pair_outside {b} e h = sym (ap (λ (t : Bool). elim t as (λ u. Result Seen Refused) [ true ↦ pair_by s p (digit_of (byte_at s p.offset)) (digit_of (byte_at s (p.offset + 1))) | false ↦ outside s p ]) (ap is_alphanumeric (sym e.is) ∙ h))
 
   pair_some : {b : ℕ} → ByteOf s p.offset b → is_alphanumeric b ≡ true → pair_by s p (digit_of b) (digit_of (byte_at s (p.offset + 1))) ≡ pair s p
   unfolding pair
   pair_some {b} e h =
       ap (λ (k : ℕ). pair_by s p (digit_of k) (digit_of (byte_at s (p.offset + 1)))) e.is
-      ∙ sym (ap (λ (t : Bool). elim t as (λ u. Seen) [ true ↦ pair_by s p (digit_of (byte_at s p.offset)) (digit_of (byte_at s (p.offset + 1))) | false ↦ outside s p ]) (ap is_alphanumeric (sym e.is) ∙ h))
+      ∙ sym (ap (λ (t : Bool). elim t as (λ u. Result Seen Refused) [ true ↦ pair_by s p (digit_of (byte_at s p.offset)) (digit_of (byte_at s (p.offset + 1))) | false ↦ outside s p ]) (ap is_alphanumeric (sym e.is) ∙ h))
 
   pub pair_first : {b h : ℕ} → ByteOf s p.offset b → is_alphanumeric b ≡ true → h ≡ digit_of b → 16 ≤ h → unknown s p ≡ pair s p
   pair_first {b} {h} e t f l = go ∙ pair_some e t
@@ -214,18 +216,18 @@ module _ (s : Text) (p : Place) where
       go : unknown s p ≡ pair_by s p (digit_of b) (digit_of (byte_at s (p.offset + 1)))
       go = rw (lt-ltb (digit_of b) 16 (omega arith), le-ltb (digit_of (byte_at s (p.offset + 1))) 16 z, pair_by)
 
-  pub pair_both : {b c h l : ℕ} {q : Place} → ByteOf s p.offset b → is_alphanumeric b ≡ true → h ≡ digit_of b → h < 16 → ByteOf s (p.offset + 1) c → l ≡ digit_of c → l < 16 → q ≡ on_by 2 p → Byte (h * 16 + l) Hex q ≡ pair s p
+  pub pair_both : {b c h l : ℕ} {q : Place} → ByteOf s p.offset b → is_alphanumeric b ≡ true → h ≡ digit_of b → h < 16 → ByteOf s (p.offset + 1) c → l ≡ digit_of c → l < 16 → q ≡ on_by 2 p → Ok (Byte (h * 16 + l) Hex q) ≡ pair s p
   pair_both {b} {c} {h} {l} {q} e t f x g k y z =
-      ap (Byte (h * 16 + l) Hex) z
-      ∙ ap (λ (n : ℕ). Byte (n * 16 + l) Hex (on_by 2 p)) f
-      ∙ ap (λ (n : ℕ). Byte (digit_of b * 16 + n) Hex (on_by 2 p)) (k ∙ ap digit_of g.is)
+      ap (λ (x : Place). Ok (Byte (h * 16 + l) Hex x)) z
+      ∙ ap (λ (n : ℕ). Ok (Byte (n * 16 + l) Hex (on_by 2 p))) f
+      ∙ ap (λ (n : ℕ). Ok (Byte (digit_of b * 16 + n) Hex (on_by 2 p))) (k ∙ ap digit_of g.is)
       ∙ go
       ∙ pair_some e t
     where
       w : digit_of (byte_at s (p.offset + 1)) < 16
       w = omega (arith, k ∙ ap digit_of g.is)
 
-      go : Byte (digit_of b * 16 + digit_of (byte_at s (p.offset + 1))) Hex (on_by 2 p) ≡ pair_by s p (digit_of b) (digit_of (byte_at s (p.offset + 1)))
+      go : (Ok (Byte (digit_of b * 16 + digit_of (byte_at s (p.offset + 1))) Hex (on_by 2 p))) ≡ pair_by s p (digit_of b) (digit_of (byte_at s (p.offset + 1)))
       go = rw (lt-ltb (digit_of b) 16 (omega arith), lt-ltb (digit_of (byte_at s (p.offset + 1))) 16 w, pair_by)
 
   -- ---- `\b`
@@ -244,7 +246,7 @@ module _ (s : Text) (p : Place) where
       let g : d ≡ bit_of (byte_at s p.offset) = f ∙ ap bit_of e.is in
       rw (lt-ltb (bit_of (byte_at s p.offset)) 2 (omega arith), bits) (ap (λ (k : ℕ). bits left (v * 2 + k) s (on_by 1 p)) (sym g))
 
-  pub bits_off : (left v : ℕ) {b d : ℕ} → ByteOf s p.offset b → d ≡ bit_of b → 2 ≤ d → bits (suc left) v s p ≡ Refused BadByteArray (next s p)
+  pub bits_off : (left v : ℕ) {b d : ℕ} → ByteOf s p.offset b → d ≡ bit_of b → 2 ≤ d → bits (suc left) v s p ≡ failed BadByteArray (next s p)
   unfolding bits
   bits_off left v {b} {d} e f h =
       let g : d ≡ bit_of (byte_at s p.offset) = f ∙ ap bit_of e.is in
@@ -290,7 +292,7 @@ bits_room {v = v} {left = left} i =
     let y : 2 ^ i.passed ≤ 2 ^ 8 = pow-le-pow_right {n = 2} (omega arith) l in
     omega arith
 
-pub bits_end : {s : Text} {at p : Place} {v left : ℕ} → Bits s at p v left → left ≤ 0 → Byte v Binary p ≡ bits 8 0 s at
+pub bits_end : {s : Text} {at p : Place} {v left : ℕ} → Bits s at p v left → left ≤ 0 → Ok (Byte v Binary p) ≡ bits 8 0 s at
 unfolding bits
 bits_end {s} {at} {p} {v} {left} i h = ap (λ (k : ℕ). bits k v s p) (let z : 0 ≡ left = omega arith in z) ∙ i.same
 
@@ -298,8 +300,8 @@ module _ {s : Text} {at p : Place} {v left b d : ℕ} (i : Bits s at p v left) (
   one_less : left ≡ suc (left - 1)
   one_less = omega arith
 
-  pub bits_wrong : {q : Place} {r : Seen} → 2 ≤ d → q ≡ next s p → r ≡ Refused BadByteArray q → r ≡ bits 8 0 s at
-  bits_wrong h z y = y ∙ ap (Refused BadByteArray) z ∙ sym (bits_off s p (left - 1) v e f h) ∙ ap (λ (k : ℕ). bits k v s p) (sym one_less) ∙ i.same
+  pub bits_wrong : {q : Place} → 2 ≤ d → q ≡ next s p → failed BadByteArray q ≡ bits 8 0 s at
+  bits_wrong h z = ap (failed BadByteArray) z ∙ sym (bits_off s p (left - 1) v e f h) ∙ ap (λ (k : ℕ). bits k v s p) (sym one_less) ∙ i.same
 
   pub bits_step : {q : Place} → d < 2 → q ≡ on_by 1 p → Bits s at q (v * 2 + d) (left - 1)
   bits_step {q} h z =
@@ -327,29 +329,29 @@ alnum_byte b h = go (ltb b 256) refl
 -- ---- each step goes on in the text
 
 -- a byte of the array is one, and it or what opens or closes is passed
-abbrev pub SeenOn : Text → Place → Seen → Type 0
-SeenOn s p (Byte v n q) = (v < 256) × Advanced s p q
-SeenOn s p (Opened n q) = Advanced s p q
-SeenOn s p (Shut q) = Advanced s p q
-SeenOn s p (Refused k q) = Unit {0}
+abbrev pub SeenOn : Text → Place → Result Seen Refused → Type 0
+SeenOn s p (Ok (Byte v n q)) = (v < 256) × Advanced s p q
+SeenOn s p (Ok (Opened n q)) = Advanced s p q
+SeenOn s p (Ok (Shut q)) = Advanced s p q
+SeenOn s p (Err e) = Unit {0}
 
-seen_later : {s : Text} {p p' : Place} → Reached s p p' → (r : Seen) → SeenOn s p' r → SeenOn s p r
-seen_later h (Byte v n q) (l, a) = (l, advanced_on h a)
-seen_later h (Opened n q) a = advanced_on h a
-seen_later h (Shut q) a = advanced_on h a
-seen_later h (Refused k q) a = tt
+seen_later : {s : Text} {p p' : Place} → Reached s p p' → (r : Result Seen Refused) → SeenOn s p' r → SeenOn s p r
+seen_later h (Ok (Byte v n q)) (l, a) = (l, advanced_on h a)
+seen_later h (Ok (Opened n q)) a = advanced_on h a
+seen_later h (Ok (Shut q)) a = advanced_on h a
+seen_later h (Err e) a = tt
 
-abbrev BitsOn : Text → Place → Seen → Type 0
-BitsOn s p (Byte v n q) = (v < 2 ^ 8) × Reached s p q
-BitsOn s p (Opened n q) = ⊥
-BitsOn s p (Shut q) = ⊥
-BitsOn s p (Refused k q) = Unit {0}
+abbrev BitsOn : Text → Place → Result Seen Refused → Type 0
+BitsOn s p (Ok (Byte v n q)) = (v < 2 ^ 8) × Reached s p q
+BitsOn s p (Ok (Opened n q)) = ⊥
+BitsOn s p (Ok (Shut q)) = ⊥
+BitsOn s p (Err e) = Unit {0}
 
-bits_later : {s : Text} {p p' : Place} → Reached s p p' → (r : Seen) → BitsOn s p' r → BitsOn s p r
-bits_later h (Byte v n q) (l, a) = (l, reached_on h a)
-bits_later h (Opened n q) a = a
-bits_later h (Shut q) a = a
-bits_later h (Refused k q) a = tt
+bits_later : {s : Text} {p p' : Place} → Reached s p p' → (r : Result Seen Refused) → BitsOn s p' r → BitsOn s p r
+bits_later h (Ok (Byte v n q)) (l, a) = (l, reached_on h a)
+bits_later h (Ok (Opened n q)) a = a
+bits_later h (Ok (Shut q)) a = a
+bits_later h (Err e) a = tt
 
 module _ (s : Text) where
   by : (n : ℕ) (p : Place) → Stands s p → 0 < n → p.offset + n ≤ length s → Advanced s p (on_by n p)
@@ -382,12 +384,12 @@ module _ (s : Text) where
       b : ℕ
       b = byte_at s p.offset
 
-  past_blanks_on : (f : Place → Seen) → ((q : Place) → Stands s q → SeenOn s q (f q)) → (p : Place) → Stands s p → SeenOn s p (past_blanks f (blanks s p))
+  past_blanks_on : (f : Place → Result Seen Refused) → ((q : Place) → Stands s q → SeenOn s q (f q)) → (p : Place) → Stands s p → SeenOn s p (past_blanks f (blanks s p))
   past_blanks_on f g p h = go (blanks s p) (blanks_on s p h)
     where
       go : (m : Must) → PassedOn s p p m → SeenOn s p (past_blanks f m)
-      go (Taken x q) (e, r) = seen_later r (f q) (g q r.stands)
-      go (Failed k q) r = tt
+      go (Ok t) (e, r) = seen_later r (f t.next) (g t.next r.stands)
+      go (Err e) r = tt
 
   between_on : (p : Place) → Stands s p → SeenOn s p (between s p)
   unfolding between
@@ -402,13 +404,13 @@ module _ (s : Text) where
       b : ℕ
       b = byte_at s (p.offset + 1)
 
-      P : Seen → Type 0
+      P : Result Seen Refused → Type 0
       P = SeenOn s p
 
       code : (k : ℕ) → b ≡ k → k < 256 → Advanced s p (on_by 2 p)
       code k e l = by 2 p h (omega arith) (behind p k e l)
 
-  plain_on : (b : ℕ) (p : Place) → Stands s p → b ≡ byte_at s p.offset → b < 256 → SeenOn s p (plain b p)
+  plain_on : (b : ℕ) (p : Place) → Stands s p → b ≡ byte_at s p.offset → b < 256 → SeenOn s p (Ok (plain b p))
   plain_on b p h e l = let z = in_text s p.offset (omega arith) in (l, by 1 p h (omega arith) (omega arith))
 
   slash_on : (p : Place) → Stands s p → byte_at s p.offset ≡ 47 → SeenOn s p (slash s p)
@@ -439,7 +441,7 @@ module _ (s : Text) where
       b : ℕ
       b = byte_at s p.offset
 
-      P : Seen → Type 0
+      P : Result Seen Refused → Type 0
       P = SeenOn s p
 
   pair_on : (p : Place) → Stands s p → SeenOn s p (pair s p)
@@ -462,7 +464,7 @@ module _ (s : Text) where
           (omega arith, by 2 p h (omega arith) (behind p c refl (let z = digit_ascii c j in omega arith)))
 
   -- so many bits on, of a byte that they fill
-  bits_reach : (left v n : ℕ) (p : Place) → Stands s p → n + left ≡ 8 → v < 2 ^ n → (r : Seen) → r ≡ bits left v s p → BitsOn s p r
+  bits_reach : (left v n : ℕ) (p : Place) → Stands s p → n + left ≡ 8 → v < 2 ^ n → (r : Result Seen Refused) → r ≡ bits left v s p → BitsOn s p r
   unfolding bits
   bits_reach zero v n p h a w r e = subst⁻¹ (BitsOn s p) e (subst (λ (k : ℕ). v < 2 ^ k) (let z : n ≡ 8 = omega arith in z) w, reached_here h)
   bits_reach (suc left) v n p h a w r e = subst⁻¹ (BitsOn s p) e (go (ltb d 2) refl (λ st x. bits_reach left (v * 2 + d) (suc n) (on_by 1 p) st (omega arith) x (bits left (v * 2 + d) s (on_by 1 p)) refl))
@@ -471,7 +473,7 @@ module _ (s : Text) where
       d = bit_of (byte_at s p.offset)
 
       go : (t : Bool) → ltb d 2 ≡ t → (Stands s (on_by 1 p) → v * 2 + d < 2 ^ suc n → BitsOn s (on_by 1 p) (bits left (v * 2 + d) s (on_by 1 p)))
-          → BitsOn s p (elim t as (λ u. Seen) [ true ↦ bits left (v * 2 + d) s (on_by 1 p) | false ↦ Refused BadByteArray (next s p) ])
+          → BitsOn s p (elim t as (λ u. Result Seen Refused) [ true ↦ bits left (v * 2 + d) s (on_by 1 p) | false ↦ failed BadByteArray (next s p) ])
       go true t ih =
           let l = ltb-true d 2 t in
           let c = in_text s p.offset (bit_byte (byte_at s p.offset) l) in
@@ -487,11 +489,11 @@ module _ (s : Text) where
       d : ℕ
       d = bit_of (byte_at s p.offset)
 
-      seen : Advanced s p (on_by 1 p) → (r : Seen) → BitsOn s (on_by 1 p) r → SeenOn s p r
-      seen a (Byte v n q) (l, g) = (l, record { stands = g.stands; further = let x : p.offset < p.offset + 1 = a.further in let y : p.offset + 1 ≤ q.offset = g.further in omega arith })
-      seen a (Opened n q) g = absurd g
-      seen a (Shut q) g = absurd g
-      seen a (Refused k q) g = tt
+      seen : Advanced s p (on_by 1 p) → (r : Result Seen Refused) → BitsOn s (on_by 1 p) r → SeenOn s p r
+      seen a (Ok (Byte v n q)) (l, g) = (l, record { stands = g.stands; further = let x : p.offset < p.offset + 1 = a.further in let y : p.offset + 1 ≤ q.offset = g.further in omega arith })
+      seen a (Ok (Opened n q)) g = absurd g
+      seen a (Ok (Shut q)) g = absurd g
+      seen a (Err e) g = tt
 
       go : d < 2 → SeenOn s p (bits 8 0 s p)
       go l =
@@ -515,27 +517,27 @@ module _ (s : Text) where
     no_byte : byte_at s p.offset ≡ 256
     no_byte = at_end s p.offset h
 
-    no_blanks : blanks s p ≡ Taken p p
+    no_blanks : blanks s p ≡ taken p p
     unfolding blanks pass
     no_blanks = ap (λ (t : Text). pass p Rattle.characters.specs.Blanks.between t p) (from_end s p.offset h)
 
-    outside_end : outside s p ≡ Refused EndOfInput p
+    outside_end : outside s p ≡ failed EndOfInput p
     unfolding outside
     outside_end = ap (outside_by s p) no_byte
 
-    between_end : between s p ≡ Refused EndOfInput p
+    between_end : between s p ≡ failed EndOfInput p
     unfolding between
     between_end = ap (past_blanks (outside s)) no_blanks ∙ outside_end
 
-    pair_end : pair s p ≡ Refused EndOfInput p
+    pair_end : pair s p ≡ failed EndOfInput p
     unfolding pair is_alphanumeric
-    pair_end = ap (λ (b : ℕ). elim (is_alphanumeric b) as (λ u. Seen) [ true ↦ pair_by s p (digit_of (byte_at s p.offset)) (digit_of (byte_at s (p.offset + 1))) | false ↦ outside s p ]) no_byte ∙ outside_end
+    pair_end = ap (λ (b : ℕ). elim (is_alphanumeric b) as (λ u. Result Seen Refused) [ true ↦ pair_by s p (digit_of (byte_at s p.offset)) (digit_of (byte_at s (p.offset + 1))) | false ↦ outside s p ]) no_byte ∙ outside_end
 
-    eight_end : eight s p ≡ Refused EndOfInput p
+    eight_end : eight s p ≡ failed EndOfInput p
     unfolding eight bit_of
-    eight_end = ap (λ (b : ℕ). elim (ltb (bit_of b) 2) as (λ u. Seen) [ true ↦ bits 8 0 s p | false ↦ outside s p ]) no_byte ∙ outside_end
+    eight_end = ap (λ (b : ℕ). elim (ltb (bit_of b) 2) as (λ u. Result Seen Refused) [ true ↦ bits 8 0 s p | false ↦ outside s p ]) no_byte ∙ outside_end
 
-    step_end : (m : Mode) (last : ℕ) → step s m last p ≡ Refused EndOfInput p
+    step_end : (m : Mode) (last : ℕ) → step s m last p ≡ failed EndOfInput p
     unfolding step ascii printed hex binary
     step_end Between last = between_end
     step_end Ascii last = ap (ascii_by s last p) no_byte ∙ between_end
@@ -549,11 +551,11 @@ module _ (s : Text) where
   read_from m last p = read s 0 (drop p.offset s) m last p
 
   -- after a step
-  abbrev pub follow : ℕ → Seen → Contents
-  follow last (Byte v n q) = push v (read_from n v q)
-  follow last (Opened n q) = read_from n last q
-  follow last (Shut q) = shut q []
-  follow last (Refused k q) = halted k q
+  abbrev pub follow : ℕ → Result Seen Refused → Contents
+  follow last (Ok (Byte v n q)) = push v (read_from n v q)
+  follow last (Ok (Opened n q)) = read_from n last q
+  follow last (Ok (Shut q)) = shut q []
+  follow last (Err e) = halted e.refusal e.at
 
   read_over : (k : ℕ) (t : Text) (m : Mode) (last : ℕ) (p : Place) → read s k t m last p ≡ read s 0 (drop k t) m last p
   unfolding read
@@ -571,12 +573,12 @@ module _ (s : Text) where
           read_over (q.offset - (p.offset + 1)) t n l q
           ∙ ap (λ (x : Text). read s 0 x n l q) (ap (drop (q.offset - (p.offset + 1))) e ∙ drop-drop (q.offset - (p.offset + 1)) (p.offset + 1) s ∙ ap (λ (o : ℕ). drop o s) (let z : p.offset + 1 + (q.offset - (p.offset + 1)) ≡ q.offset = omega arith in z))
 
-      then : (t : Text) → t ≡ drop (p.offset + 1) s → (r : Seen) → SeenOn s p r
-          → elim r as (λ u. Contents) [ Byte v n q ↦ push v (read s (q.offset - (p.offset + 1)) t n v q) | Opened n q ↦ read s (q.offset - (p.offset + 1)) t n last q | Shut q ↦ shut q [] | Refused k q ↦ halted k q ] ≡ follow last r
-      then t e (Byte v n q) g = ap (push v) (onward t q n v e g.1.further)
-      then t e (Opened n q) g = onward t q n last e g.further
-      then t e (Shut q) g = refl
-      then t e (Refused k q) g = refl
+      then : (t : Text) → t ≡ drop (p.offset + 1) s → (r : Result Seen Refused) → SeenOn s p r
+          → elim r as (λ u. Contents) [ Ok (Byte v n q) ↦ push v (read s (q.offset - (p.offset + 1)) t n v q) | Ok (Opened n q) ↦ read s (q.offset - (p.offset + 1)) t n last q | Ok (Shut q) ↦ shut q [] | Err e ↦ halted e.refusal e.at ] ≡ follow last r
+      then t e (Ok (Byte v n q)) g = ap (push v) (onward t q n v e g.1.further)
+      then t e (Ok (Opened n q)) g = onward t q n last e g.further
+      then t e (Ok (Shut q)) g = refl
+      then t e (Err f) g = refl
 
       go : (t : Text) → t ≡ drop p.offset s → read s 0 t m last p ≡ follow last (step s m last p)
       go [] e = sym (ap (follow last) (step_end p (short (ltb p.offset (length s)) refl) m last))
@@ -602,33 +604,33 @@ pub reading_start : {s : Text} {at : Place} → Stands s at → Reading s at at 
 unfolding bytearray contents
 reading_start h = record { same = refl; stands = h }
 
-module _ {s : Text} {at p : Place} {m : Mode} {last : ℕ} {r : Seen} (i : Reading s at p m last) (e : r ≡ step s m last p) where
-  ahead : {x : Seen} → r ≡ x → (SeenOn s p x) × (span_by at (follow s last x) ≡ bytearray s at)
+module _ {s : Text} {at p : Place} {m : Mode} {last : ℕ} {r : Result Seen Refused} (i : Reading s at p m last) (e : r ≡ step s m last p) where
+  ahead : {x : Result Seen Refused} → r ≡ x → (SeenOn s p x) × (span_by at (follow s last x) ≡ bytearray s at)
   ahead {x} k =
       let z : step s m last p ≡ x = sym e ∙ k in
-      (subst (SeenOn s p) z (step_on s m last p i.stands), ap (λ (y : Seen). span_by at (follow s last y)) (sym z) ∙ ap (span_by at) (sym (read_step s m last p i.stands)) ∙ i.same)
+      (subst (SeenOn s p) z (step_on s m last p i.stands), ap (λ (y : Result Seen Refused). span_by at (follow s last y)) (sym z) ∙ ap (span_by at) (sym (read_step s m last p i.stands)) ∙ i.same)
 
-  pub reading_byte : {v : ℕ} {n : Mode} {q : Place} → r ≡ Byte v n q → Reading s at q n v
+  pub reading_byte : {v : ℕ} {n : Mode} {q : Place} → r ≡ Ok (Byte v n q) → Reading s at q n v
   reading_byte {v} {n} {q} k = let z = ahead k in record { same = sym (span_push at v (read_from s n v q)) ∙ z.1; stands = z.0.1.stands }
 
-  pub reading_opened : {n : Mode} {q : Place} → r ≡ Opened n q → Reading s at q n last
+  pub reading_opened : {n : Mode} {q : Place} → r ≡ Ok (Opened n q) → Reading s at q n last
   reading_opened k = let z = ahead k in record { same = z.1; stands = z.0.stands }
 
-  pub reading_shut : {q : Place} → r ≡ Shut q → Taken at q ≡ bytearray s at
+  pub reading_shut : {q : Place} → r ≡ Ok (Shut q) → taken at q ≡ bytearray s at
   reading_shut k = (ahead k).1
 
-  pub reading_refused : {k : Refusal} {q : Place} → r ≡ Refused k q → Failed k q ≡ bytearray s at
+  pub reading_refused : {f : Refused} → r ≡ Err f → Err f ≡ bytearray s at
   reading_refused k = (ahead k).1
 
-  pub byte_further : {v : ℕ} {n : Mode} {q : Place} → r ≡ Byte v n q → Advanced s p q
+  pub byte_further : {v : ℕ} {n : Mode} {q : Place} → r ≡ Ok (Byte v n q) → Advanced s p q
   byte_further k = (ahead k).0.1
 
-  pub opened_further : {n : Mode} {q : Place} → r ≡ Opened n q → Advanced s p q
+  pub opened_further : {n : Mode} {q : Place} → r ≡ Ok (Opened n q) → Advanced s p q
   opened_further k = (ahead k).0
 
 -- ---- a step by its mode
 
-module _ (s : Text) (last : ℕ) (p : Place) {m : Mode} {r : Seen} where
+module _ (s : Text) (last : ℕ) (p : Place) {m : Mode} {r : Result Seen Refused} where
   pub step_between : m ≡ Between → r ≡ between s p → r ≡ step s m last p
   unfolding step
   step_between k z = z ∙ ap (λ (n : Mode). step s n last p) (sym k)
@@ -664,29 +666,29 @@ module _ (s : Text) (q : Place) where
   read_on (b ∷ t) zero o m last p l z f h e =
       go (step s m last p) (step_on s m last p h) (λ left n v p' x g. read_on t left (o + 1) n v p' x (rest s o b t z).1 g) e
     where
-      go : (r : Seen) → SeenOn s p r
+      go : (r : Result Seen Refused) → SeenOn s p r
           → ((left : ℕ) (n : Mode) (v : ℕ) (p' : Place) (x : List ℕ) → o + 1 + left ≡ p'.offset → Stands s p' → read s left t n v p' ≡ shut q x → Advanced s p' q)
-          → elim r as (λ u. Contents) [ Byte v n p' ↦ push v (read s (p'.offset - (p.offset + 1)) t n v p') | Opened n p' ↦ read s (p'.offset - (p.offset + 1)) t n last p' | Shut p' ↦ shut p' [] | Refused k p' ↦ halted k p' ] ≡ shut q l
+          → elim r as (λ u. Contents) [ Ok (Byte v n p') ↦ push v (read s (p'.offset - (p.offset + 1)) t n v p') | Ok (Opened n p') ↦ read s (p'.offset - (p.offset + 1)) t n last p' | Ok (Shut p') ↦ shut p' [] | Err e ↦ halted e.refusal e.at ] ≡ shut q l
           → Advanced s p q
-      go (Byte v n p') g ih e =
+      go (Ok (Byte v n p')) g ih e =
           let a : p.offset < p'.offset = g.1.further in
           let k = p'.offset - (p.offset + 1) in
           let y = pushed v (read s k t n v p') q l e in
           advanced_on (advanced_reached g.1) (ih k n v p' y.0 (omega arith) g.1.stands y.1)
-      go (Opened n p') g ih e =
+      go (Ok (Opened n p')) g ih e =
           let a : p.offset < p'.offset = g.further in
           let k = p'.offset - (p.offset + 1) in
           advanced_on (advanced_reached g) (ih k n last p' l (omega arith) g.stands e)
-      go (Shut p') g ih e = let y : p' ≡ q = cc in subst (λ (x : Place). Advanced s p x) y g
-      go (Refused k p') g ih e = absurd (subst Halted e tt)
+      go (Ok (Shut p')) g ih e = let y : p' ≡ q = cc in subst (λ (x : Place). Advanced s p x) y g
+      go (Err f) g ih e = absurd (subst Halted e tt)
 
-pub bytearray_accepted : (s : Text) (p h q : Place) → Stands s p → bytearray s p ≡ Taken h q → (h ≡ p) × Advanced s p q
+pub bytearray_accepted : (s : Text) (p h q : Place) → Stands s p → bytearray s p ≡ taken h q → (h ≡ p) × Advanced s p q
 unfolding bytearray contents
 bytearray_accepted s p h q st e = go (read s 0 (drop p.offset s) Between 256 p) refl e
   where
-    go : (c : Contents) → read s 0 (drop p.offset s) Between 256 p ≡ c → span_by p c ≡ Taken h q → (h ≡ p) × Advanced s p q
+    go : (c : Contents) → read s 0 (drop p.offset s) Between 256 p ≡ c → span_by p c ≡ taken h q → (h ≡ p) × Advanced s p q
     go (shut x l) z e =
-        let w : h ≡ p = cc in
-        let y : x ≡ q = cc in
+        let w = sym (taken_here e) in
+        let y = taken_next e in
         (w, read_on s q (drop p.offset s) 0 p.offset Between 256 p l refl (omega arith) st (z ∙ ap (λ (k : Place). shut k l) y))
     go (halted k x) z e = let w : ◌≡◌ {A = ℕ} 0 1 = cc in absurd (omega arith)

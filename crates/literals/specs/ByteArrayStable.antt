@@ -1,6 +1,6 @@
 -- A bytearray is decided by its own bytes: where one is accepted, it is accepted in each text that has the same bytes there, whatever follows,
 -- and holds the same bytes. Assumes nothing.
-use Rattle.std.specs.Prelude.{◌≡◌, Bool, ◌&&◌, ◌||◌, ltb}
+use Rattle.std.specs.Prelude.{◌≡◌, Bool, ◌&&◌, ◌||◌, ltb, Err, Ok, Result}
 use Rattle.std.proofs.Math.Path.{refl, ap, subst, subst⁻¹}
 use Rattle.std.proofs.Common.{sym, ◌∙◌}
 use Rattle.std.proofs.Math.Bool.{true, false, not}
@@ -12,8 +12,6 @@ use Rattle.std.proofs.Math.ListN.{drop}
 use borrow.Author.Tests.{ltb-true, ltb-false, eqb-true}
 use Rattle.characters.specs.declared.place.Place.{Place}
 use Rattle.characters.specs.declared.refusal.Refusal.TheVariants.{BadByteArray}
-use Rattle.characters.specs.declared.tokens.Must.{Must}
-use Rattle.characters.specs.declared.tokens.Must.TheVariants.{Taken, Failed}
 use Rattle.characters.specs.Text.{Text, byte_at, ByteOf, on_by, next, Stands}
 use Rattle.characters.specs.Blanks.{blanks}
 use Rattle.characters.specs.BlankLaws.{PassedOn, blanks_on, rest}
@@ -24,17 +22,19 @@ use Rattle.literals.specs.NumberLaws.{choice, same_branch}
 use Rattle.literals.specs.Strings.{letter_of}
 use Rattle.literals.specs.declared.bytearrays.Mode.{Mode}
 use Rattle.literals.specs.declared.bytearrays.Mode.TheVariants.{Between, Ascii, Hex, Binary}
-use Rattle.literals.specs.declared.bytearrays.Seen.{Seen}
-use Rattle.literals.specs.declared.bytearrays.Seen.TheVariants.{Byte, Opened, Shut, Refused}
+use Rattle.literals.specs.declared.bytearrays.Seen.TheVariants.{Byte, Opened, Shut}
 use Rattle.literals.specs.ByteArrays.{opening_by, opening, outside_by, outside, past_blanks, between, mark_by, mark, slash_by, slash, line_end, printed, ascii_by, ascii, is_alphanumeric, pair_by, pair, hex, bit_of, bits, eight, binary, step, Contents, shut, halted, push, read, contents, span_by, bytearray, listed, bytes_of}
 use Rattle.literals.specs.ByteArrayLaws.{alnum_under, pair_outside, bit_none, eight_none, SeenOn, step_on, pushed, read_on}
+use Rattle.characters.specs.Answers.{Must, failed, taken, taken_next}
+use Rattle.characters.specs.declared.refusal.Refused.{Refused}
+use Rattle.literals.specs.declared.bytearrays.Seen.{Seen}
 
 -- what was seen ends before the end of an accepted bytearray, or is that end
-abbrev Near : ℕ → Seen → Type 0
-Near to (Byte v n q) = q.offset < to
-Near to (Opened n q) = q.offset < to
-Near to (Shut q) = q.offset ≤ to
-Near to (Refused k q) = ⊥
+abbrev Near : ℕ → Result Seen Refused → Type 0
+Near to (Ok (Byte v n q)) = q.offset < to
+Near to (Ok (Opened n q)) = q.offset < to
+Near to (Ok (Shut q)) = q.offset ≤ to
+Near to (Err e) = ⊥
 
 -- ---- which bytes a step looks at: they stand before that end
 
@@ -66,7 +66,7 @@ module _ (s : Text) (to : ℕ) where
       b : ℕ
       b = byte_at s (p.offset + 1)
 
-      P : Seen → Type 0
+      P : Result Seen Refused → Type 0
       P x = Near to x → p.offset + 2 < to
 
   outside_near : (p : Place) → Near to (outside s p) → Ahead s to p
@@ -79,16 +79,16 @@ module _ (s : Text) (to : ℕ) where
       b : ℕ
       b = byte_at s p.offset
 
-      P : Seen → Type 0
+      P : Result Seen Refused → Type 0
       P x = Near to x → Ahead s to p
 
   -- past blanks, if so at the place after them
-  past_blanks_near : (f : Place → Seen) → ((q : Place) → Near to (f q) → Ahead s to q) → (p : Place) → Stands s p → Near to (past_blanks f (blanks s p)) → Ahead s to p
+  past_blanks_near : (f : Place → Result Seen Refused) → ((q : Place) → Near to (f q) → Ahead s to q) → (p : Place) → Stands s p → Near to (past_blanks f (blanks s p)) → Ahead s to p
   past_blanks_near f near p st = go (blanks s p) (blanks_on s p st)
     where
       go : (m : Must) → PassedOn s p p m → Near to (past_blanks f m) → Ahead s to p
-      go (Taken h q) r k = ahead_later p q r.1.further (near q k)
-      go (Failed x q) r k = absurd k
+      go (Ok t) r k = ahead_later p t.next r.1.further (near t.next k)
+      go (Err e) r k = absurd k
 
   between_near : (p : Place) → Stands s p → Near to (between s p) → Ahead s to p
   unfolding between
@@ -105,7 +105,7 @@ module _ (s : Text) (to : ℕ) where
         b : ℕ
         b = byte_at s (p.offset + 1)
 
-        P : Seen → Type 0
+        P : Result Seen Refused → Type 0
         P x = Near to x → p.offset + 1 < to
 
     slash_near : (byte_at s p.offset ≡ 93 → ⊥) → Near to (slash s p) → p.offset + 1 < to
@@ -115,7 +115,7 @@ module _ (s : Text) (to : ℕ) where
         b : ℕ
         b = byte_at s (p.offset + 1)
 
-        P : Seen → Type 0
+        P : Result Seen Refused → Type 0
         P x = Near to x → p.offset + 1 < to
 
     ascii_near : (last : ℕ) → Near to (ascii s last p) → Ahead s to p
@@ -130,7 +130,7 @@ module _ (s : Text) (to : ℕ) where
         b : ℕ
         b = byte_at s p.offset
 
-        P : Seen → Type 0
+        P : Result Seen Refused → Type 0
         P x = Near to x → Ahead s to p
 
   -- in a run of `\x`
@@ -203,7 +203,7 @@ module _ (s t : Text) (from to : ℕ) (a : AlikeIn from to s t) where
   outside_stable p f h = outside_by_lem p (byte_at s p.offset) f h ∙ ap (outside_by t p) (same p.offset f (outside_near s to p h).one)
 
   -- past blanks, if what follows them is the same, and is no `/`
-  past_blanks_stable : (f : Text → Place → Seen)
+  past_blanks_stable : (f : Text → Place → Result Seen Refused)
       → ((q : Place) → Near to (f s q) → Ahead s to q)
       → ((q : Place) → Near to (f s q) → byte_at s q.offset ≡ 47 → ⊥)
       → ((q : Place) → from ≤ q.offset → Near to (f s q) → f s q ≡ f t q)
@@ -213,12 +213,12 @@ module _ (s t : Text) (from to : ℕ) (a : AlikeIn from to s t) where
   past_blanks_stable f near no_slash stable p st l = go (blanks s p) refl (blanks_on s p st)
     where
       go : (m : Must) → blanks s p ≡ m → PassedOn s p p m → Near to (past_blanks (f s) m) → past_blanks (f s) m ≡ past_blanks (f t) (blanks t p)
-      go (Taken h q) e r k =
-          let o : p.offset ≤ q.offset = r.1.further in
-          let n : q.offset < to = (near q k).one in
-          stable q (omega arith) k
-          ∙ ap (past_blanks (f t)) (sym (blanks_stable s t p h q st (alike_in l (omega arith) (omega arith) a) (λ x. absurd (no_slash q k x)) e))
-      go (Failed x q) e r k = absurd k
+      go (Ok y) e r k =
+          let o : p.offset ≤ y.next.offset = r.1.further in
+          let n : y.next.offset < to = (near y.next k).one in
+          stable y.next (omega arith) k
+          ∙ ap (past_blanks (f t)) (sym (blanks_stable s t p y.here y.next st (alike_in l (omega arith) (omega arith) a) (λ x. absurd (no_slash y.next k x)) e))
+      go (Err f) e r k = absurd k
 
   between_stable : (p : Place) → Stands s p → from ≤ p.offset → Near to (between s p) → between s p ≡ between t p
   unfolding between
@@ -268,7 +268,7 @@ module _ (s t : Text) (from to : ℕ) (a : AlikeIn from to s t) where
       ∙ ap (λ (y : ℕ). pair_by t p (digit_of b) (digit_of y)) (same (p.offset + 1) (omega arith) (omega (arith, pair_by_near s to p (digit_of b) (digit_of c) k))))
       (λ x. outside_stable p f)
       h
-      ∙ ap (λ (y : ℕ). elim (is_alphanumeric y) as (λ u. Seen) [ true ↦ pair_by t p (digit_of y) (digit_of (byte_at t (p.offset + 1))) | false ↦ outside t p ])
+      ∙ ap (λ (y : ℕ). elim (is_alphanumeric y) as (λ u. Result Seen Refused) [ true ↦ pair_by t p (digit_of y) (digit_of (byte_at t (p.offset + 1))) | false ↦ outside t p ])
       (same p.offset f (pair_near s to p h).one)
     where
       b : ℕ
@@ -282,11 +282,11 @@ module _ (s t : Text) (from to : ℕ) (a : AlikeIn from to s t) where
   unfolding bits
   bits_stable zero v p f h = refl
   bits_stable (suc left) v p f h =
-      same_branch (Near to) (ltb d 2) {y = bits left (v * 2 + d) t (on_by 1 p)} {z = Refused BadByteArray (next t p)}
+      same_branch (Near to) (ltb d 2) {y = bits left (v * 2 + d) t (on_by 1 p)} {z = failed BadByteArray (next t p)}
       (λ x. bits_stable left (v * 2 + d) (on_by 1 p) (omega arith))
       (λ x k. absurd k)
       h
-      ∙ ap (λ (b : ℕ). elim (ltb (bit_of b) 2) as (λ u. Seen) [ true ↦ bits left (v * 2 + bit_of b) t (on_by 1 p) | false ↦ Refused BadByteArray (next t p) ])
+      ∙ ap (λ (b : ℕ). elim (ltb (bit_of b) 2) as (λ u. Result Seen Refused) [ true ↦ bits left (v * 2 + bit_of b) t (on_by 1 p) | false ↦ failed BadByteArray (next t p) ])
       (same p.offset f (omega (arith, bits_near s to (suc left) v p h)))
     where
       d : ℕ
@@ -296,7 +296,7 @@ module _ (s t : Text) (from to : ℕ) (a : AlikeIn from to s t) where
   unfolding eight
   eight_stable p f h =
       same_branch (Near to) (ltb (bit_of (byte_at s p.offset)) 2) {y = bits 8 0 t p} {z = outside t p} (λ x. bits_stable 8 0 p f) (λ x. outside_stable p f) h
-      ∙ ap (λ (b : ℕ). elim (ltb (bit_of b) 2) as (λ u. Seen) [ true ↦ bits 8 0 t p | false ↦ outside t p ]) (same p.offset f (eight_near s to p h).one)
+      ∙ ap (λ (b : ℕ). elim (ltb (bit_of b) 2) as (λ u. Result Seen Refused) [ true ↦ bits 8 0 t p | false ↦ outside t p ]) (same p.offset f (eight_near s to p h).one)
 
   -- in any mode
   step_stable : (m : Mode) (last : ℕ) (p : Place) → Stands s p → from ≤ p.offset → Near to (step s m last p) → step s m last p ≡ step t m last p
@@ -333,34 +333,34 @@ module _ (s t : Text) (from : ℕ) (q : Place) (a : AlikeIn from q.offset s t) w
       after : l ≡ drop (o + 1) s
       after = (rest s o d l z).1
 
-      steps : (g : Seen) → step s m last p ≡ g → Near q.offset g → step t m last p ≡ g
+      steps : (g : Result Seen Refused) → step s m last p ≡ g → Near q.offset g → step t m last p ≡ g
       steps g w h = sym (step_stable s t from q.offset a m last p st (omega arith) (subst⁻¹ (Near q.offset) w h)) ∙ w
 
-      go : (g : Seen) → step s m last p ≡ g → SeenOn s p g
+      go : (g : Result Seen Refused) → step s m last p ≡ g → SeenOn s p g
           → ((left : ℕ) (m : Mode) (last : ℕ) (p : Place) (x : List ℕ) → o + 1 + left ≡ p.offset → Stands s p → read s left l m last p ≡ shut q x → read t left r m last p ≡ shut q x)
           → elim g as (λ u. Contents) [
-            | Byte v n p' ↦ push v (read s (p'.offset - (p.offset + 1)) l n v p')
-            | Opened n p' ↦ read s (p'.offset - (p.offset + 1)) l n last p'
-            | Shut p' ↦ shut p' []
-            | Refused k p' ↦ halted k p'
+            | Ok (Byte v n p') ↦ push v (read s (p'.offset - (p.offset + 1)) l n v p')
+            | Ok (Opened n p') ↦ read s (p'.offset - (p.offset + 1)) l n last p'
+            | Ok (Shut p') ↦ shut p' []
+            | Err e ↦ halted e.refusal e.at
           ] ≡ shut q x
           → read t zero (c ∷ r) m last p ≡ shut q x
-      go (Byte v n p') w g ih e =
+      go (Ok (Byte v n p')) w g ih e =
           let j = p'.offset - (p.offset + 1) in
           let u : p.offset < p'.offset = g.1.further in
           let y = pushed v (read s j l n v p') q x e in
           let h = (read_on s q l j (o + 1) n v p' y.0 after (omega arith) g.1.stands y.1).further in
-          rw (steps (Byte v n p') w h, read) (ap (push v) (ih j n v p' y.0 (omega arith) g.1.stands y.1) ∙ sym (ap (push v) y.1) ∙ e)
-      go (Opened n p') w g ih e =
+          rw (steps (Ok (Byte v n p')) w h, read) (ap (push v) (ih j n v p' y.0 (omega arith) g.1.stands y.1) ∙ sym (ap (push v) y.1) ∙ e)
+      go (Ok (Opened n p')) w g ih e =
           let j = p'.offset - (p.offset + 1) in
           let u : p.offset < p'.offset = g.further in
           let h = (read_on s q l j (o + 1) n last p' x after (omega arith) g.stands e).further in
-          rw (steps (Opened n p') w h, read) (ih j n last p' x (omega arith) g.stands e)
-      go (Shut p') w g ih e =
+          rw (steps (Ok (Opened n p')) w h, read) (ih j n last p' x (omega arith) g.stands e)
+      go (Ok (Shut p')) w g ih e =
           let y : p' ≡ q = cc in
           let h : p'.offset ≤ q.offset = omega (arith, ap (λ (u : Place). u.offset) y) in
-          rw (steps (Shut p') w h, read) e
-      go (Refused k p') w g ih e = let v : ◌≡◌ {A = ℕ} 0 1 = cc in absurd (omega arith)
+          rw (steps (Ok (Shut p')) w h, read) e
+      go (Err f) w g ih e = let v : ◌≡◌ {A = ℕ} 0 1 = cc in absurd (omega arith)
 
 -- the bytes of a bytearray, and the place after it
 pub contents_stable : (s t : Text) (p q : Place) (x : List ℕ)
@@ -376,14 +376,14 @@ contents_stable s t p q x st a e =
 pub bytearray_stable : (s t : Text) (p h q : Place)
     → Stands s p
     → AlikeIn p.offset q.offset s t
-    → bytearray s p ≡ Taken h q
-    → (bytearray t p ≡ Taken h q) × (bytes_of t p ≡ bytes_of s p)
+    → bytearray s p ≡ taken h q
+    → (bytearray t p ≡ taken h q) × (bytes_of t p ≡ bytes_of s p)
 unfolding bytearray bytes_of
 bytearray_stable s t p h q st a e = go (contents s p) refl e
   where
-    go : (c : Contents) → contents s p ≡ c → span_by p c ≡ Taken h q → (span_by p (contents t p) ≡ Taken h q) × (listed (contents t p) ≡ listed (contents s p))
+    go : (c : Contents) → contents s p ≡ c → span_by p c ≡ taken h q → (span_by p (contents t p) ≡ taken h q) × (listed (contents t p) ≡ listed (contents s p))
     go (shut r x) z e =
-        let y : r ≡ q = cc in
+        let y = taken_next e in
         let w = contents_stable s t p q x st a (z ∙ ap (λ (k : Place). shut k x) y) ∙ ap (λ (k : Place). shut k x) (sym y) in
         (ap (span_by p) w ∙ e, ap listed w ∙ ap listed (sym z))
     go (halted k r) z e = let v : ◌≡◌ {A = ℕ} 0 1 = cc in absurd (omega arith)

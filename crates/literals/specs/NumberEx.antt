@@ -1,6 +1,6 @@
 -- Examples that compute, each with the answer of the Rust: a text, and the number literal at its start. Where no digit stands, the Rust
 -- reads no number; the definition's answer there is 16. Assumes nothing.
-use Rattle.std.specs.Prelude.{◌≡◌, refl, List, [], ◌∷◌, ◌++◌, map, ℕ, zero, suc, pos}
+use Rattle.std.specs.Prelude.{◌≡◌, refl, List, [], ◌∷◌, ◌++◌, map, ℕ, zero, suc, pos, Ok, Result}
 use Rattle.characters.specs.declared.refusal.Refusal.{Refusal}
 use Rattle.characters.specs.declared.refusal.Refusal.TheVariants.{
   OutsideInt64,
@@ -10,19 +10,21 @@ use Rattle.characters.specs.declared.refusal.Refusal.TheVariants.{
   NoExponentDigits,
 }
 use Rattle.characters.specs.Text.{Text, ascii, on_by, start}
-use Rattle.literals.specs.declared.numbers.Numeral.{Numeral}
-use Rattle.literals.specs.declared.numbers.Numeral.TheVariants.{Int, Float, Bad}
+use Rattle.literals.specs.declared.numbers.Numeral.TheVariants.{Int, Float}
 use Rattle.literals.specs.Numbers.{digit_of, run, digits, whole, based, exponent, exponent_or, fraction, dotted, past_digits, decimal, number}
+use Rattle.characters.specs.Answers.{failed}
+use Rattle.characters.specs.declared.refusal.Refused.{Refused}
+use Rattle.literals.specs.declared.numbers.Numeral.{Numeral}
 
 -- an answer, its place so many characters on
-abbrev int : ℕ → ℕ → Numeral
-int v n = Int (pos v) (on_by n start)
+abbrev int : ℕ → ℕ → Result Numeral Refused
+int v n = Ok (Int (pos v) (on_by n start))
 
-abbrev float : ℕ → Numeral
-float n = Float (on_by n start)
+abbrev float : ℕ → Result Numeral Refused
+float n = Ok (Float (on_by n start))
 
-abbrev bad : Refusal → ℕ → Numeral
-bad k n = Bad k (on_by n start)
+abbrev bad : Refusal → ℕ → Result Numeral Refused
+bad k n = failed k (on_by n start)
 
 -- a byte so many times
 abbrev many : ℕ → ℕ → Text
@@ -30,11 +32,11 @@ many zero b = []
 many (suc n) b = b ∷ many n b
 
 abbrev Cases : Type 0
-Cases = List (Text × Numeral)
+Cases = List (Text × Result Numeral Refused)
 
 -- what is read is what is told
 abbrev Right : Cases → Type 0
-Right cs = map (λ (c : Text × Numeral). number c.0 start) cs ≡ map (λ (c : Text × Numeral). c.1) cs
+Right cs = map (λ (c : Text × Result Numeral Refused). number c.0 start) cs ≡ map (λ (c : Text × Result Numeral Refused). c.1) cs
 
 -- decimal integers, and where they end
 plain : Right

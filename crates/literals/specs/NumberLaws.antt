@@ -1,5 +1,5 @@
 -- Laws of number literals. Assumes nothing.
-use Rattle.std.specs.Prelude.{◌≡◌, refl, Bool, true, false, ◌||◌, [], ◌∷◌, ℕ, suc, ◌+◌, ◌-◌, ◌*◌, ◌≤◌, ◌<◌, ◌^◌, leb, ltb, eqb, ℤ, pos, negsuc, length, drop}
+use Rattle.std.specs.Prelude.{◌≡◌, refl, Bool, true, false, ◌||◌, [], ◌∷◌, ℕ, suc, ◌+◌, ◌-◌, ◌*◌, ◌≤◌, ◌<◌, ◌^◌, leb, ltb, eqb, ℤ, pos, negsuc, length, drop, Ok, Result, Err}
 use Rattle.std.proofs.Common.{sym, subst, ◌∙◌, arith, length-drop, ltb-true, ltb-false, leb-true, lt-ltb, le-ltb, le-leb, ne_eqb, eq-eqb, eqb-true}
 use Rattle.std.proofs.lemmas.Bool.{lt-leb}
 use Rattle.characters.specs.declared.place.Place.{Place}
@@ -7,10 +7,7 @@ use Rattle.characters.specs.declared.refusal.Refusal.{Refusal}
 use Rattle.characters.specs.declared.refusal.Refusal.TheVariants.{IntegerTooLarge, ExpectedDigit, MisplacedSeparator, NoExponentDigits}
 use Rattle.characters.specs.Text.{Text, byte_at, on_by, Stands}
 use Rattle.characters.specs.PlaceLaws.{Reached, Advanced, reached_here, reached_on, advanced_on, advanced_reached, in_text, from_byte, on_by_stands}
-use Rattle.literals.specs.declared.numbers.Run.{Run}
-use Rattle.literals.specs.declared.numbers.Run.TheVariants.{Digits, Broken}
-use Rattle.literals.specs.declared.numbers.Numeral.{Numeral}
-use Rattle.literals.specs.declared.numbers.Numeral.TheVariants.{Int, Float, Bad}
+use Rattle.literals.specs.declared.numbers.Numeral.TheVariants.{Int, Float}
 use Rattle.literals.specs.Numbers.{
   digit_of,
   is_digit_in,
@@ -33,6 +30,11 @@ use Rattle.literals.specs.Numbers.{
   decimal,
   number,
 }
+use Rattle.characters.specs.Answers.{failed}
+use Rattle.characters.specs.declared.refusal.Refused.{Refused}
+use Rattle.literals.specs.Answers.{digits_to}
+use Rattle.literals.specs.declared.numbers.Digits.{Digits}
+use Rattle.literals.specs.declared.numbers.Numeral.{Numeral}
 
 -- ---- digits
 
@@ -100,7 +102,7 @@ pub run_digit : (limited : Bool) (r v b : ℕ) (l : Text) (p : Place) → digit_
 unfolding run
 run_digit limited r v b l p h e = rw (lt-ltb (digit_of b) r h, e, run) refl
 
-pub run_full : (r v b : ℕ) (l : Text) (p : Place) → digit_of b < r → 2 ^ 127 ≤ v * r + digit_of b → run true r v (b ∷ l) p ≡ Broken IntegerTooLarge p
+pub run_full : (r v b : ℕ) (l : Text) (p : Place) → digit_of b < r → 2 ^ 127 ≤ v * r + digit_of b → run true r v (b ∷ l) p ≡ failed IntegerTooLarge p
 unfolding run
 run_full r v b l p h e = rw (lt-ltb (digit_of b) r h, le-leb (2 ^ 127) (v * r + digit_of b) e, run) refl
 
@@ -110,11 +112,11 @@ unfolding run
 run_separator limited r v b l p h e f = rw (le-ltb (digit_of b) r h, eq-eqb b 95 e, lt-ltb (digit_of (byte_at l 0)) r f, run) refl
 
 pub run_broken : (limited : Bool) (r v b : ℕ) (l : Text) (p : Place) → r ≤ digit_of b → b ≡ 95 → r ≤ digit_of (byte_at l 0)
-    → run limited r v (b ∷ l) p ≡ Broken MisplacedSeparator p
+    → run limited r v (b ∷ l) p ≡ failed MisplacedSeparator p
 unfolding run
 run_broken limited r v b l p h e f = rw (le-ltb (digit_of b) r h, eq-eqb b 95 e, le-ltb (digit_of (byte_at l 0)) r f, run) refl
 
-pub run_end : (limited : Bool) (r v b : ℕ) (l : Text) (p : Place) → r ≤ digit_of b → (b ≡ 95 → ⊥) → run limited r v (b ∷ l) p ≡ Digits v p
+pub run_end : (limited : Bool) (r v b : ℕ) (l : Text) (p : Place) → r ≤ digit_of b → (b ≡ 95 → ⊥) → run limited r v (b ∷ l) p ≡ digits_to v p
 unfolding run
 run_end limited r v b l p h e = rw (le-ltb (digit_of b) r h, ne_eqb b 95 e, run) refl
 
@@ -134,9 +136,9 @@ pub same_branch : {A : Type 0} (P : A → Type 0) (t : Bool) {w x y z : A}
 same_branch P true f g a = f refl a
 same_branch P false f g a = g refl a
 
-abbrev pub end_of : Run → Place
-end_of (Digits v q) = q
-end_of (Broken k q) = q
+abbrev pub end_of : Result Digits Refused → Place
+end_of (Ok d) = d.next
+end_of (Err e) = e.at
 
 run_reached : (s : Text) (limited : Bool) (r v : ℕ) (l : Text) (p : Place) → Stands s p → p.offset + length l ≡ length s → Reached s p (end_of (run limited r v l p))
 unfolding run
@@ -146,7 +148,7 @@ run_reached s limited r v (b ∷ l) p h e =
     (λ x. choice P (reaches limited (v * r + digit_of b)) (λ y. reached_here h) (λ y. reached_on step (run_reached s limited r (v * r + digit_of b) l (on_by 1 p) step.stands left)))
     (λ x. choice P (eqb b 95) (λ y. choice P (is_digit_in r (byte_at l 0)) (λ z. reached_on step (run_reached s limited r v l (on_by 1 p) step.stands left)) (λ z. reached_here h)) (λ y. reached_here h))
   where
-    P : Run → Type 0
+    P : Result Digits Refused → Type 0
     P x = Reached s p (end_of x)
 
     size : p.offset + suc (length l) ≡ length s
@@ -159,13 +161,13 @@ run_reached s limited r v (b ∷ l) p h e =
     step = on_by_stands s 1 p h (omega (arith, size))
 
 -- a run of digits advances; a refusal's place is no earlier than where it began
-abbrev pub RunOn : Text → Place → Run → Type 0
-RunOn s p (Digits v q) = Advanced s p q
-RunOn s p (Broken k q) = Reached s p q
+abbrev pub RunOn : Text → Place → Result Digits Refused → Type 0
+RunOn s p (Ok d) = Advanced s p d.next
+RunOn s p (Err e) = Reached s p e.at
 
-run_past : (s : Text) (p : Place) (x : Run) → Reached s (on_by 1 p) (end_of x) → RunOn s p x
-run_past s p (Digits v q) h = record { stands = h.stands; further = omega (arith, h.further) }
-run_past s p (Broken k q) h = record { stands = h.stands; further = omega (arith, h.further) }
+run_past : (s : Text) (p : Place) (x : Result Digits Refused) → Reached s (on_by 1 p) (end_of x) → RunOn s p x
+run_past s p (Ok d) h = record { stands = h.stands; further = omega (arith, h.further) }
+run_past s p (Err e) h = record { stands = h.stands; further = omega (arith, h.further) }
 
 -- the first digit is passed
 run_first : (s : Text) (limited : Bool) (r v b : ℕ) (l : Text) (p : Place) → digit_of b < r → Stands s p → p.offset + suc (length l) ≡ length s → RunOn s p (run limited r v (b ∷ l) p)
@@ -192,27 +194,27 @@ abbrev pub Small : ℤ → Type 0
 Small (pos v) = v ≤ most
 Small (negsuc v) = ⊥
 
-abbrev pub NumeralOn : Text → Place → Numeral → Type 0
-NumeralOn s p (Int z q) = Advanced s p q × Small z
-NumeralOn s p (Float q) = Advanced s p q
-NumeralOn s p (Bad k q) = Reached s p q
+abbrev pub NumeralOn : Text → Place → Result Numeral Refused → Type 0
+NumeralOn s p (Ok (Int z q)) = Advanced s p q × Small z
+NumeralOn s p (Ok (Float q)) = Advanced s p q
+NumeralOn s p (Err e) = Reached s p e.at
 
-numeral_later : {s : Text} {p q : Place} → Reached s p q → (x : Numeral) → NumeralOn s q x → NumeralOn s p x
-numeral_later h (Int z q) (a, b) = (advanced_on h a, b)
-numeral_later h (Float q) a = advanced_on h a
-numeral_later h (Bad k q) a = reached_on h a
+numeral_later : {s : Text} {p q : Place} → Reached s p q → (x : Result Numeral Refused) → NumeralOn s q x → NumeralOn s p x
+numeral_later h (Ok (Int z q)) (a, b) = (advanced_on h a, b)
+numeral_later h (Ok (Float q)) a = advanced_on h a
+numeral_later h (Err e) a = reached_on h a
 
 whole_on : (s : Text) (p : Place) (v : ℕ) (q : Place) → Advanced s p q → NumeralOn s p (whole v q)
 unfolding whole
 whole_on s p v q h = choice (NumeralOn s p) (leb v most) (λ x. (h, leb-true v most x)) (λ x. advanced_reached h)
 
-whole_of_on : (s : Text) (p : Place) (x : Run) → RunOn s p x → NumeralOn s p (whole_of x)
-whole_of_on s p (Digits v q) h = whole_on s p v q h
-whole_of_on s p (Broken k q) h = h
+whole_of_on : (s : Text) (p : Place) (x : Result Digits Refused) → RunOn s p x → NumeralOn s p (whole_of x)
+whole_of_on s p (Ok d) h = whole_on s p d.value d.next h
+whole_of_on s p (Err e) h = h
 
-float_of_on : (s : Text) (p : Place) (x : Run) → RunOn s p x → NumeralOn s p (float_of x)
-float_of_on s p (Digits v q) h = h
-float_of_on s p (Broken k q) h = h
+float_of_on : (s : Text) (p : Place) (x : Result Digits Refused) → RunOn s p x → NumeralOn s p (float_of x)
+float_of_on s p (Ok d) h = h
+float_of_on s p (Err e) h = h
 
 based_on : (s : Text) (r : ℕ) (p : Place) → r ≤ 16 → Stands s p → NumeralOn s p (based r s p)
 unfolding based
@@ -240,7 +242,7 @@ exponent_on s p h =
     let a = signed_on s p h in
     numeral_later a (float_of (digits false NoExponentDigits 10 s q)) (float_of_on s q (digits false NoExponentDigits 10 s q) (digits_on s false NoExponentDigits 10 q (omega arith) a.stands))
 
-exponent_or_on : (s : Text) (p q : Place) (plain : Numeral) → Reached s p q → NumeralOn s p plain → NumeralOn s p (exponent_or s q plain)
+exponent_or_on : (s : Text) (p q : Place) (plain : Result Numeral Refused) → Reached s p q → NumeralOn s p plain → NumeralOn s p (exponent_or s q plain)
 unfolding exponent_or
 exponent_or_on s p q plain h a =
     choice (NumeralOn s p) (eqb (byte_at s q.offset) 101 || eqb (byte_at s q.offset) 69)
@@ -249,9 +251,9 @@ exponent_or_on s p q plain h a =
     numeral_later (reached_on h z) (exponent s (on_by 1 q)) (exponent_on s (on_by 1 q) z.stands))
     (λ x. a)
 
-past_fraction_on : (s : Text) (p : Place) (x : Run) → RunOn s p x → NumeralOn s p (past_fraction s x)
-past_fraction_on s p (Digits v q) h = exponent_or_on s p q (Float q) (advanced_reached h) h
-past_fraction_on s p (Broken k q) h = h
+past_fraction_on : (s : Text) (p : Place) (x : Result Digits Refused) → RunOn s p x → NumeralOn s p (past_fraction s x)
+past_fraction_on s p (Ok d) h = exponent_or_on s p d.next (Ok (Float d.next)) (advanced_reached h) h
+past_fraction_on s p (Err e) h = h
 
 fraction_on : (s : Text) (p : Place) → Stands s p → NumeralOn s p (fraction s p)
 unfolding fraction
@@ -274,9 +276,9 @@ past_digits_on s p v q h =
     choice (NumeralOn s p) (eqb (byte_at s q.offset) 46) (λ x. dotted_on s p v q h (eqb-true (byte_at s q.offset) 46 x))
     (λ x. exponent_or_on s p q (whole v q) (advanced_reached h) (whole_on s p v q h))
 
-decimal_of_on : (s : Text) (p : Place) (x : Run) → RunOn s p x → NumeralOn s p (decimal_of s x)
-decimal_of_on s p (Digits v q) h = past_digits_on s p v q h
-decimal_of_on s p (Broken k q) h = h
+decimal_of_on : (s : Text) (p : Place) (x : Result Digits Refused) → RunOn s p x → NumeralOn s p (decimal_of s x)
+decimal_of_on s p (Ok d) h = past_digits_on s p d.value d.next h
+decimal_of_on s p (Err e) h = h
 
 decimal_on : (s : Text) (p : Place) → Stands s p → NumeralOn s p (decimal s p)
 unfolding decimal
@@ -295,7 +297,7 @@ number_on s p h =
     (λ b. choice P (eqb (byte_at s (p.offset + 1)) 98) (λ c. prefixed 2 98 (omega arith) (omega arith) c) (λ c. decimal_on s p h)))
     (λ a. decimal_on s p h)
   where
-    P : Numeral → Type 0
+    P : Result Numeral Refused → Type 0
     P = NumeralOn s p
 
     prefixed : (r k : ℕ) → r ≤ 16 → k < 256 → eqb (byte_at s (p.offset + 1)) k ≡ true → NumeralOn s p (based r s (on_by 2 p))
@@ -304,14 +306,14 @@ number_on s p h =
         numeral_later z (based r s (on_by 2 p)) (based_on s r (on_by 2 p) small z.stands)
 
 -- the same of an answer at hand
-pub int_advances : {s : Text} {p q : Place} {z : ℤ} {x : Numeral} → Stands s p → x ≡ number s p → x ≡ Int z q → Advanced s p q
-int_advances {s} {p} {q} {z} {x} h e f = let a : NumeralOn s p (Int z q) = subst (NumeralOn s p) (sym e ∙ f) (number_on s p h) in a.0
+pub int_advances : {s : Text} {p q : Place} {z : ℤ} {x : Result Numeral Refused} → Stands s p → x ≡ number s p → x ≡ Ok (Int z q) → Advanced s p q
+int_advances {s} {p} {q} {z} {x} h e f = let a : NumeralOn s p (Ok (Int z q)) = subst (NumeralOn s p) (sym e ∙ f) (number_on s p h) in a.0
 
-pub int_small : {s : Text} {p q : Place} {z : ℤ} {x : Numeral} → Stands s p → x ≡ number s p → x ≡ Int z q → Small z
-int_small {s} {p} {q} {z} {x} h e f = let a : NumeralOn s p (Int z q) = subst (NumeralOn s p) (sym e ∙ f) (number_on s p h) in a.1
+pub int_small : {s : Text} {p q : Place} {z : ℤ} {x : Result Numeral Refused} → Stands s p → x ≡ number s p → x ≡ Ok (Int z q) → Small z
+int_small {s} {p} {q} {z} {x} h e f = let a : NumeralOn s p (Ok (Int z q)) = subst (NumeralOn s p) (sym e ∙ f) (number_on s p h) in a.1
 
-pub float_advances : {s : Text} {p q : Place} {x : Numeral} → Stands s p → x ≡ number s p → x ≡ Float q → Advanced s p q
+pub float_advances : {s : Text} {p q : Place} {x : Result Numeral Refused} → Stands s p → x ≡ number s p → x ≡ Ok (Float q) → Advanced s p q
 float_advances {s} {p} {q} {x} h e f = subst (NumeralOn s p) (sym e ∙ f) (number_on s p h)
 
-pub bad_reaches : {s : Text} {p q : Place} {k : Refusal} {x : Numeral} → Stands s p → x ≡ number s p → x ≡ Bad k q → Reached s p q
+pub bad_reaches : {s : Text} {p q : Place} {k : Refusal} {x : Result Numeral Refused} → Stands s p → x ≡ number s p → x ≡ failed k q → Reached s p q
 bad_reaches {s} {p} {q} {k} {x} h e f = subst (NumeralOn s p) (sym e ∙ f) (number_on s p h)

@@ -1,15 +1,17 @@
 -- How the code sums digits in 64 bits: the value is held at 2^63, and the digits that may still come are counted. Assumes nothing.
-use Rattle.std.specs.Prelude.{true, false, ℕ, ◌+◌, ◌-◌, ◌*◌, ◌≤◌, ◌<◌, min, ltb, eqb}
-use Rattle.literals.specs.declared.numbers.Run.{Run}
-use Rattle.literals.specs.declared.numbers.Run.TheVariants.{Digits, Broken}
+use Rattle.std.specs.Prelude.{true, false, ℕ, ◌+◌, ◌-◌, ◌*◌, ◌≤◌, ◌<◌, min, ltb, eqb, Err, Ok, Result}
+use Rattle.characters.specs.Answers.{failed}
+use Rattle.characters.specs.declared.refusal.Refused.{Refused}
+use Rattle.literals.specs.Answers.{digits_to}
+use Rattle.literals.specs.declared.numbers.Digits.{Digits}
 
 -- a value, held at the first number that no integer literal reaches
 abbrev pub held : ℕ → ℕ
 held v = min v 9223372036854775808
 
-abbrev pub held_run : Run → Run
-held_run (Digits v q) = Digits (held v) q
-held_run (Broken k q) = Broken k q
+abbrev pub held_run : Result Digits Refused → Result Digits Refused
+held_run (Ok t) = digits_to (held t.value) t.next
+held_run (Err e) = Err e
 
 -- a radix, with the largest value whose product with it is below 2^63
 pub record Base (radix room : ℕ) : Type 0 where

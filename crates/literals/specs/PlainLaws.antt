@@ -1,5 +1,5 @@
 -- Laws of plain literals: where one is found, the rules of all literals read it, to the same end and value. Assumes nothing.
-use Rattle.std.specs.Prelude.{◌≡◌, Bool, ◌&&◌, ◌||◌, not, [], ◌∷◌, ℕ, zero, suc, ◌+◌, ◌-◌, ◌*◌, ◌^◌, ◌≤◌, ◌<◌, leb, ltb, pos, length, take, drop}
+use Rattle.std.specs.Prelude.{◌≡◌, Bool, ◌&&◌, ◌||◌, not, [], ◌∷◌, ℕ, zero, suc, ◌+◌, ◌-◌, ◌*◌, ◌^◌, ◌≤◌, ◌<◌, leb, ltb, pos, length, take, drop, Ok, Result}
 use Rattle.std.proofs.Math.Path.{refl, ap}
 use Rattle.std.proofs.Common.{sym, subst, ◌∙◌, mul-one, one-mul, mul_assoc, drop-drop, get_or-drop, leb-true, ltb-true, ltb-false, le-leb, lt-ltb, eq-eqb, ne_eqb, eqb-true}
 use Rattle.std.proofs.Math.Bool.{true, false, and-eq-true_iff}
@@ -9,14 +9,11 @@ use Rattle.std.proofs.Math.Dec.{eqb}
 use Rattle.std.proofs.lemmas.Bool.{eqb-false, not-true}
 use Rattle.characters.specs.declared.place.Place.{Place}
 use Rattle.characters.specs.declared.refusal.Refusal.TheVariants.{ExpectedDigit}
-use Rattle.characters.specs.declared.tokens.Must.TheVariants.{Taken}
 use Rattle.characters.specs.Text.{Text, byte_at, on_by, past}
 use Rattle.characters.specs.PlaceLaws.{in_text, from_byte, past_low, on_by_none, on_by_on_by}
 use Rattle.characters.specs.Counts.{count_of, end_of}
 use Rattle.characters.specs.CountLaws.{count_yes, count_no, count_none, end_inside, run_bytes}
 use Rattle.characters.specs.Names.{is_digit, is_name_byte}
-use Rattle.literals.specs.declared.numbers.Run.TheVariants.{Digits}
-use Rattle.literals.specs.declared.numbers.Numeral.{Numeral}
 use Rattle.literals.specs.declared.numbers.Numeral.TheVariants.{Int, Float}
 use Rattle.literals.specs.Numbers.{
   digit_of,
@@ -38,6 +35,10 @@ use Rattle.literals.specs.Numbers.{
 use Rattle.literals.specs.NumberLaws.{choice, run_digit, run_end}
 use Rattle.literals.specs.Strings.{is_quote, scan, string_by, string}
 use Rattle.literals.specs.Plain.{goes_on, is_int, int_end, is_float, fraction_end, float_end, Few, value_from, int_value, is_itself, is_plain, content_end, string_end}
+use Rattle.characters.specs.Answers.{taken}
+use Rattle.characters.specs.declared.refusal.Refused.{Refused}
+use Rattle.literals.specs.Answers.{digits_to}
+use Rattle.literals.specs.declared.numbers.Numeral.{Numeral}
 
 -- ---- digits
 
@@ -59,14 +60,14 @@ no_digit b e =
     P x = 10 ≤ x
 
 -- digits with no `_` behind them: their value, and past them
-run_plain : (l : Text) (v : ℕ) (p : Place) → (byte_at l (count_of is_digit l) ≡ 95 → ⊥) → run false 10 v l p ≡ Digits (value_from v (take (count_of is_digit l) l)) (on_by (count_of is_digit l) p)
+run_plain : (l : Text) (v : ℕ) (p : Place) → (byte_at l (count_of is_digit l) ≡ 95 → ⊥) → run false 10 v l p ≡ digits_to (value_from v (take (count_of is_digit l) l)) (on_by (count_of is_digit l) p)
 unfolding run value_from
-run_plain [] v p n = rw (count_none is_digit) (ap (Digits v) (sym (on_by_none p)))
+run_plain [] v p n = rw (count_none is_digit) (ap (digits_to v) (sym (on_by_none p)))
 run_plain (b ∷ l) v p n = go (is_digit b) refl (run_plain l (v * 10 + (b - 48)) (on_by 1 p))
   where
     go : (t : Bool) → is_digit b ≡ t
-        → ((byte_at l (count_of is_digit l) ≡ 95 → ⊥) → run false 10 (v * 10 + (b - 48)) l (on_by 1 p) ≡ Digits (value_from (v * 10 + (b - 48)) (take (count_of is_digit l) l)) (on_by (count_of is_digit l) (on_by 1 p)))
-        → run false 10 v (b ∷ l) p ≡ Digits (value_from v (take (count_of is_digit (b ∷ l)) (b ∷ l))) (on_by (count_of is_digit (b ∷ l)) p)
+        → ((byte_at l (count_of is_digit l) ≡ 95 → ⊥) → run false 10 (v * 10 + (b - 48)) l (on_by 1 p) ≡ digits_to (value_from (v * 10 + (b - 48)) (take (count_of is_digit l) l)) (on_by (count_of is_digit l) (on_by 1 p)))
+        → run false 10 v (b ∷ l) p ≡ digits_to (value_from v (take (count_of is_digit (b ∷ l)) (b ∷ l))) (on_by (count_of is_digit (b ∷ l)) p)
     go true e ih =
         let c = count_yes is_digit b l e in
         let d = digit_value b e in
@@ -74,13 +75,13 @@ run_plain (b ∷ l) v p n = go (is_digit b) refl (run_plain l (v * 10 + (b - 48)
         run_digit false 10 v b l p (omega arith) refl
         ∙ ap (λ (x : ℕ). run false 10 (v * 10 + x) l (on_by 1 p)) d
         ∙ ih (λ z. n (ap (byte_at (b ∷ l)) c ∙ z))
-        ∙ ap (Digits (value_from (v * 10 + (b - 48)) (take (count_of is_digit l) l))) (on_by_on_by 1 (count_of is_digit l) p ∙ ap (λ (k : ℕ). on_by k p) (let z : 1 + count_of is_digit l ≡ suc (count_of is_digit l) = omega arith in z))
-        ∙ ap (λ (k : ℕ). Digits (value_from v (take k (b ∷ l))) (on_by k p)) (sym c)
+        ∙ ap (digits_to (value_from (v * 10 + (b - 48)) (take (count_of is_digit l) l))) (on_by_on_by 1 (count_of is_digit l) p ∙ ap (λ (k : ℕ). on_by k p) (let z : 1 + count_of is_digit l ≡ suc (count_of is_digit l) = omega arith in z))
+        ∙ ap (λ (k : ℕ). digits_to (value_from v (take k (b ∷ l))) (on_by k p)) (sym c)
     go false e ih =
         let c = count_no is_digit b l e in
         run_end false 10 v b l p (no_digit b e) (λ z. n (ap (byte_at (b ∷ l)) c ∙ z))
-        ∙ ap (Digits v) (sym (on_by_none p))
-        ∙ ap (λ (k : ℕ). Digits (value_from v (take k (b ∷ l))) (on_by k p)) (sym c)
+        ∙ ap (digits_to v) (sym (on_by_none p))
+        ∙ ap (λ (k : ℕ). digits_to (value_from v (take k (b ∷ l))) (on_by k p)) (sym c)
 
 -- n digits are below the n-th power of ten
 value_less : (n : ℕ) (l : Text) (v m : ℕ) → n ≤ count_of is_digit l → v < m → value_from v (take n l) < m * 10 ^ n
@@ -131,12 +132,12 @@ module _ (s : Text) (p : Place) (e : ℕ) (ends : e ≡ end_of is_digit s p.offs
       lt-ltb (digit_of (byte_at s p.offset)) 10 (omega arith)
 
   -- with no `_` behind them: their value, and past them
-  digits_plain : (byte_at s e ≡ 95 → ⊥) → digits false ExpectedDigit 10 s p ≡ Digits (int_value s p.offset e) (on_by (e - p.offset) p)
+  digits_plain : (byte_at s e ≡ 95 → ⊥) → digits false ExpectedDigit 10 s p ≡ digits_to (int_value s p.offset e) (on_by (e - p.offset) p)
   unfolding digits
   digits_plain n =
       rw (first_in, digits)
       (run_plain (drop p.offset s) 0 p (λ z. n (sym follows ∙ z))
-      ∙ ap (λ (k : ℕ). Digits (value_from 0 (take k (drop p.offset s))) (on_by k p)) (sym count))
+      ∙ ap (λ (k : ℕ). digits_to (value_from 0 (take k (drop p.offset s))) (on_by k p)) (sym count))
 
   -- what is no digit and does not follow them does not stand behind the first
   no_base : (k : ℕ) → is_digit k ≡ false → (byte_at s e ≡ k → ⊥) → byte_at s (p.offset + 1) ≡ k → ⊥
@@ -160,7 +161,7 @@ module _ (s : Text) (p : Place) (e : ℕ) (ends : e ≡ end_of is_digit s p.offs
   decimal_number m n = go (eqb (byte_at s p.offset) 48) (ne_eqb (byte_at s (p.offset + 1)) 120 (no_base 120 refl m)) (ne_eqb (byte_at s (p.offset + 1)) 98 (no_base 98 refl n))
     where
       go : (t : Bool) → eqb (byte_at s (p.offset + 1)) 120 ≡ false → eqb (byte_at s (p.offset + 1)) 98 ≡ false
-          → elim t as (λ u. Numeral) [ true ↦ elim (eqb (byte_at s (p.offset + 1)) 120) as (λ u. Numeral) [ true ↦ based 16 s (on_by 2 p) | false ↦ elim (eqb (byte_at s (p.offset + 1)) 98) as (λ u. Numeral) [ true ↦ based 2 s (on_by 2 p) | false ↦ decimal s p ] ] | false ↦ decimal s p ]
+          → elim t as (λ u. Result Numeral Refused) [ true ↦ elim (eqb (byte_at s (p.offset + 1)) 120) as (λ u. Result Numeral Refused) [ true ↦ based 16 s (on_by 2 p) | false ↦ elim (eqb (byte_at s (p.offset + 1)) 98) as (λ u. Result Numeral Refused) [ true ↦ based 2 s (on_by 2 p) | false ↦ decimal s p ] ] | false ↦ decimal s p ]
           ≡ decimal s p
       go true x y = rw (x, y) refl
       go false x y = refl
@@ -179,7 +180,7 @@ no_dot {b} a f =
     omega arith
 
 -- no exponent stands where neither `e` nor `E` does
-no_exponent : (s : Text) (q : Place) (n : Numeral) → goes_on (byte_at s q.offset) ≡ false → exponent_or s q n ≡ n
+no_exponent : (s : Text) (q : Place) (n : Result Numeral Refused) → goes_on (byte_at s q.offset) ≡ false → exponent_or s q n ≡ n
 unfolding exponent_or
 no_exponent s q n a = rw (ne_eqb (byte_at s q.offset) 101 (no_more a 101 refl), ne_eqb (byte_at s q.offset) 69 (no_more a 69 refl), exponent_or) refl
 
@@ -224,14 +225,14 @@ module _ (s : Text) (p : Place) (e : ℕ) (v : IsInt s p.offset e) where
   abbrev value : ℕ
   value = int_value s p.offset e
 
-  whole_plain : (q : Place) → whole value q ≡ Int (pos value) q
+  whole_plain : (q : Place) → whole value q ≡ Ok (Int (pos value) q)
   unfolding whole
   whole_plain q =
       let l = int_small (int_few v) in
       let d : 10 ^ 18 ≡ 1000000000000000000 = refl in
       rw (le-leb value most (omega arith), whole) refl
 
-  decimal_plain : decimal s p ≡ Int (pos value) (on_by (e - p.offset) p)
+  decimal_plain : decimal s p ≡ Ok (Int (pos value) (on_by (e - p.offset) p))
   unfolding decimal
   decimal_plain =
       let l : p.offset < e = v.some in
@@ -241,7 +242,7 @@ module _ (s : Text) (p : Place) (e : ℕ) (v : IsInt s p.offset e) where
       ∙ whole_plain (on_by (e - p.offset) p)
 
   -- the rules read it: an integer of that value, to that end
-  pub plain_number : number s p ≡ Int (pos value) (on_by (e - p.offset) p)
+  pub plain_number : number s p ≡ Ok (Int (pos value) (on_by (e - p.offset) p))
   plain_number = decimal_number s p e v.ends v.some (no_more v.alone 120 refl) (no_more v.alone 98 refl) ∙ decimal_plain
 
 -- ---- plain fractions
@@ -310,11 +311,11 @@ module _ (s : Text) (p : Place) (d e : ℕ) (v : IsFloat s p.offset d e) where
   end_at : past_all.offset ≡ e
   end_at = let l = fraction_some in omega arith
 
-  fraction_plain : fraction s past_dot ≡ Float past_all
+  fraction_plain : fraction s past_dot ≡ Ok (Float past_all)
   unfolding fraction
   fraction_plain =
       ap (past_fraction s) (digits_plain s past_dot e fraction_ends fraction_some (no_more v.alone 95 refl))
-      ∙ no_exponent s past_all (Float past_all) (ap (λ (k : ℕ). goes_on (byte_at s k)) end_at ∙ v.alone)
+      ∙ no_exponent s past_all (Ok (Float past_all)) (ap (λ (k : ℕ). goes_on (byte_at s k)) end_at ∙ v.alone)
 
   dotted_plain : (w : ℕ) → dotted s w at_dot ≡ fraction s past_dot
   unfolding dotted
@@ -330,7 +331,7 @@ module _ (s : Text) (p : Place) (d e : ℕ) (v : IsFloat s p.offset d e) where
   not_dot : (k : ℕ) → eqb 46 k ≡ false → byte_at s d ≡ k → ⊥
   not_dot k n f = eqb-false 46 k n (sym v.dot ∙ f)
 
-  decimal_float : decimal s p ≡ Float past_all
+  decimal_float : decimal s p ≡ Ok (Float past_all)
   unfolding decimal
   decimal_float =
       ap (decimal_of s) (digits_plain s p d v.whole_ends v.whole_some (not_dot 95 refl))
@@ -339,14 +340,14 @@ module _ (s : Text) (p : Place) (d e : ℕ) (v : IsFloat s p.offset d e) where
       ∙ fraction_plain
 
   -- the rules read it: a float to that end
-  pub plain_float : number s p ≡ Float (on_by (e - p.offset) p)
+  pub plain_float : number s p ≡ Ok (Float (on_by (e - p.offset) p))
   plain_float =
       let l : p.offset < d = v.whole_some in
       let m : d + 1 < e = v.some in
       let y : d - p.offset + 1 + (e - past_dot.offset) ≡ e - p.offset = omega arith in
       decimal_number s p d v.whole_ends v.whole_some (not_dot 120 refl) (not_dot 98 refl)
       ∙ decimal_float
-      ∙ ap Float (ap (on_by (e - past_dot.offset)) (on_by_on_by (d - p.offset) 1 p) ∙ on_by_on_by (d - p.offset + 1) (e - past_dot.offset) p ∙ ap (λ (k : ℕ). on_by k p) y)
+      ∙ ap (λ (q : Place). Ok (Float q)) (ap (on_by (e - past_dot.offset)) (on_by_on_by (d - p.offset) 1 p) ∙ on_by_on_by (d - p.offset + 1) (e - past_dot.offset) p ∙ ap (λ (k : ℕ). on_by k p) y)
 
 -- ---- plain strings
 
@@ -421,7 +422,7 @@ module _ (s : Text) (p : Place) (e : ℕ) (v : IsString s p.offset e) where
       (omega arith, omega arith)
 
   -- the rules read it: a string to that end
-  pub plain_string : string s p ≡ Taken p (on_by (e - p.offset) p)
+  pub plain_string : string s p ≡ taken p (on_by (e - p.offset) p)
   unfolding string
   plain_string =
       let h : q < 40 = small.0 in
@@ -433,7 +434,7 @@ module _ (s : Text) (p : Place) (e : ℕ) (v : IsString s p.offset e) where
       ∙ scan_plain s p q (drop (p.offset + 1) s) (on_by 1 p)
       ∙ ap (λ (x : Text). scan s p q 0 x (on_by within (on_by 1 p))) (drop-drop within (p.offset + 1) s ∙ from_byte s (content_end s p.offset) q (sym v.closed) (omega arith))
       ∙ close (drop (content_end s p.offset + 1) s) (on_by within (on_by 1 p)) (eq-eqb q q refl)
-      ∙ ap (Taken p) (past_low q (on_by within (on_by 1 p)) (λ w. omega arith) (omega arith) ∙ on_by_on_by within 1 (on_by 1 p) ∙ on_by_on_by 1 (within + 1) p ∙ ap (λ (k : ℕ). on_by k p) (let y : 1 + (within + 1) ≡ e - p.offset = omega arith in y))
+      ∙ ap (taken p) (past_low q (on_by within (on_by 1 p)) (λ w. omega arith) (omega arith) ∙ on_by_on_by within 1 (on_by 1 p) ∙ on_by_on_by 1 (within + 1) p ∙ ap (λ (k : ℕ). on_by k p) (let y : 1 + (within + 1) ≡ e - p.offset = omega arith in y))
     where
-      close : (t : Text) (r : Place) → eqb q q ≡ true → scan s p q 0 (q ∷ t) r ≡ Taken p (past q r)
+      close : (t : Text) (r : Place) → eqb q q ≡ true → scan s p q 0 (q ∷ t) r ≡ taken p (past q r)
       close t r z = unfold scan in rw (z, scan) refl

@@ -1,5 +1,5 @@
 -- Every character that a string spells is a Unicode scalar value. Assumes nothing.
-use Rattle.std.specs.Prelude.{◌≡◌, refl, true, ◌&&◌, ◌⊎◌, ℕ, zero, suc, ◌+◌, ◌*◌, ◌<◌, leb, ltb, eqb, drop}
+use Rattle.std.specs.Prelude.{◌≡◌, refl, true, ◌&&◌, ◌⊎◌, ℕ, zero, suc, ◌+◌, ◌*◌, ◌<◌, leb, ltb, eqb, drop, Result}
 use Rattle.std.proofs.Common.{ap, ◌∙◌, inl, inr, arith, ltb-true, leb-true, lt-ltb, le-ltb, le-leb}
 use Rattle.std.proofs.Math.Bool.{and-eq-true_iff}
 use mathlib.Core.List.Memᴰ
@@ -7,10 +7,11 @@ use mathlib.Core.List.{[], ◌∷◌, Memᴰ}
 use Rattle.characters.specs.Text.{Text, byte_at}
 use Rattle.characters.specs.Utf8.{Scalar, char_of}
 use Rattle.characters.specs.Utf8Laws.{char_scalar}
-use Rattle.literals.specs.declared.strings.Escaped.{Escaped}
 use Rattle.literals.specs.Numbers.{digit_of}
 use Rattle.literals.specs.NumberLaws.{choice}
 use Rattle.literals.specs.Strings.{hex_by, is_scalar, named, closing, digits, unicode, letter_of, escape, escape_value, value_in, width_in, decode, decoded}
+use Rattle.literals.specs.declared.strings.BadEscape.{BadEscape}
+use Rattle.literals.specs.declared.strings.Escaped.{Escaped}
 
 -- a scalar value passes the test
 pub scalar_true : (v : ℕ) → Scalar v → is_scalar v ≡ true
@@ -24,7 +25,7 @@ low_scalar v h = scalar_true v (inl h)
 -- ---- escapes
 
 -- an escape means a scalar value
-abbrev MeansScalar : Escaped → Type 0
+abbrev MeansScalar : Result Escaped BadEscape → Type 0
 MeansScalar e = is_scalar (escape_value e) ≡ true
 
 -- each form of an escape does

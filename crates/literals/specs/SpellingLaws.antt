@@ -1,5 +1,5 @@
 -- Laws of what a string spells: the walk over its characters, the comparison, and that an accepted string can be decoded. Assumes nothing.
-use Rattle.std.specs.Prelude.{◌≡◌, Bool, ◌&&◌, ◌⊎◌, leb, ltb, eqb, take, drop}
+use Rattle.std.specs.Prelude.{◌≡◌, Bool, ◌&&◌, ◌⊎◌, leb, ltb, eqb, take, drop, Err, None, Ok, Option, Result, Some}
 use Rattle.std.proofs.Math.Path.{refl, sym, ap, subst⁻¹}
 use Rattle.std.proofs.Common.{subst, ◌∙◌, inl, inr, length-take, length-drop, drop-drop, take_all, get_or-drop}
 use Rattle.std.proofs.Math.Bool.{true, false, and-eq-true_iff}
@@ -12,8 +12,7 @@ use borrow.Author.Tests.{ltb-true, eqb-false, lt-ltb, le-ltb, ne_eqb, eq-eqb}
 use Rattle.characters.specs.declared.place.Place.{Place}
 use Rattle.characters.specs.declared.place.Span.{Span}
 use Rattle.characters.specs.declared.refusal.Refusal.TheVariants.{EndOfInput, BadStringEscape}
-use Rattle.characters.specs.declared.tokens.Must.{Must}
-use Rattle.characters.specs.declared.tokens.Must.TheVariants.{Taken, Failed}
+use Rattle.characters.specs.declared.refusal.Refused.{Refused}
 use Rattle.characters.specs.Text.{Text, byte_at, ByteOf, on_by, past, Stands}
 use Rattle.characters.specs.PlaceLaws.{front, from_byte, from_end, past_offset, past_stands, on_by_stands}
 use Rattle.characters.specs.BlankLaws.{rest}
@@ -21,13 +20,15 @@ use Rattle.characters.specs.AlikeLaws.{Alike, alike_byte, alike_front, alike_dro
 use Rattle.characters.specs.Utf8.{char_of, sequence_of}
 use Rattle.characters.specs.Utf8Laws.{sequence_length}
 use Rattle.characters.specs.Names.{part, same}
-use Rattle.literals.specs.declared.strings.Spelled.{Spelled}
-use Rattle.literals.specs.declared.strings.Spelled.TheVariants.{End, Char}
-use Rattle.literals.specs.declared.strings.Escaped.{Escaped}
-use Rattle.literals.specs.declared.strings.Escaped.TheVariants.{Means, Short, NotHex, Unknown}
+use Rattle.literals.specs.declared.strings.BadEscape.TheVariants.{Short, NotHex, Unknown}
 use Rattle.literals.specs.Numbers.{digit_of}
-use Rattle.literals.specs.StringLaws.{ended, not_ended, escape_inside, Wrong}
-use Rattle.literals.specs.Strings.{hex_by, is_scalar, named, letter_of, closing, digits, unicode, escape, reach, strayed, scan, string_by, string, escape_value, escape_width, value_in, width_in, decode, decoded, piece_in, piece, sound, is_quote, key_of, same_key}
+use Rattle.literals.specs.StringLaws.{ended, not_ended, escape_inside}
+use Rattle.literals.specs.Strings.{hex_by, is_scalar, named, letter_of, closing, digits, unicode, escape, reach, strayed, scan, string_by, string, escape_value, escape_width, spelled_by, value_in, width_in, decode, decoded, piece_in, piece, sound, is_quote, key_of, same_key}
+use Rattle.characters.specs.Answers.{Must, failed, taken, taken_next}
+use Rattle.literals.specs.Answers.{means, spells_as, means_width, spells_parts, taken_here}
+use Rattle.literals.specs.declared.strings.BadEscape.{BadEscape}
+use Rattle.literals.specs.declared.strings.Escaped.{Escaped}
+use Rattle.literals.specs.declared.strings.Spelled.{Spelled}
 
 -- ---- what follows a `\` does not look at what stands before it
 
@@ -35,14 +36,14 @@ byte_drop : (s : Text) (o i : ℕ) → byte_at (drop o s) i ≡ byte_at s (o + i
 byte_drop s o i = get_or-drop o s i 256
 
 -- the choice of an escape, its two long forms given
-abbrev escape_with : ℕ → Escaped → Escaped → Escaped
+abbrev escape_with : ℕ → Result Escaped BadEscape → Result Escaped BadEscape → Result Escaped BadEscape
 escape_with b x u =
     elim (ltb (letter_of b) 256) [
-      | true ↦ Means (letter_of b) 1
-      | false ↦ elim (eqb b 120) [ true ↦ x | false ↦ elim (eqb b 117) [ true ↦ u | false ↦ Unknown ] ]
+      | true ↦ means (letter_of b) 1
+      | false ↦ elim (eqb b 120) [ true ↦ x | false ↦ elim (eqb b 117) [ true ↦ u | false ↦ Err Unknown ] ]
     ]
 
-abbrev hex_at : Text → ℕ → Escaped
+abbrev hex_at : Text → ℕ → Result Escaped BadEscape
 hex_at s o = hex_by (digit_of (byte_at s (o + 1))) (digit_of (byte_at s (o + 2)))
 
 escape_with_lem : (s : Text) (o : ℕ) → escape s o ≡ escape_with (byte_at s o) (hex_at s o) (unicode s (o + 1))
@@ -58,15 +59,15 @@ unicode_shift s o =
     ap (λ (x : ℕ). braces x (drop 2 (drop o s))) (byte_drop s o 1)
     ∙ ap (λ (t : Text). braces (byte_at s (o + 1)) t) (drop-drop 2 o s ∙ ap (λ (k : ℕ). drop k s) (let w : o + 2 ≡ o + 1 + 1 = omega arith in w))
   where
-    braces : ℕ → Text → Escaped
-    braces x t = elim (eqb x 123) [ true ↦ digits 0 0 t | false ↦ Short 1 ]
+    braces : ℕ → Text → Result Escaped BadEscape
+    braces x t = elim (eqb x 123) [ true ↦ digits 0 0 t | false ↦ Err (Short 1) ]
 
 pub escape_shift : (s : Text) (o : ℕ) → escape (drop o s) 0 ≡ escape s o
 escape_shift s o =
     escape_with_lem (drop o s) 0
     ∙ ap (λ (b : ℕ). escape_with b (hex_at (drop o s) 0) (unicode (drop o s) 1)) (front s o)
-    ∙ ap (λ (x : Escaped). escape_with (byte_at s o) x (unicode (drop o s) 1)) (hex_shift s o)
-    ∙ ap (λ (u : Escaped). escape_with (byte_at s o) (hex_at s o) u) (unicode_shift s o)
+    ∙ ap (λ (x : Result Escaped BadEscape). escape_with (byte_at s o) x (unicode (drop o s) 1)) (hex_shift s o)
+    ∙ ap (λ (u : Result Escaped BadEscape). escape_with (byte_at s o) (hex_at s o) u) (unicode_shift s o)
     ∙ sym (escape_with_lem s o)
 
 -- ---- the walk over the characters
@@ -95,58 +96,52 @@ pub value_long : (b : ℕ) (t : Text) → 128 ≤ b → value_in b t ≡ char_of
 unfolding value_in
 value_long b t h = rw (ne_eqb b 92 (λ e. omega arith), le-ltb b 128 h, value_in)
 
-pub spelled : {e : Escaped} {v n : ℕ} (at : ℕ) → e ≡ Means v n → Char v (at + n) ≡ Char (escape_value e) (at + escape_width e)
-spelled at k = sym (ap (λ (x : Escaped). Char (escape_value x) (at + escape_width x)) k)
+pub spelled : {e : Result Escaped BadEscape} {v n : ℕ} (at : ℕ) → e ≡ means v n → spells_as v (at + n) ≡ spells_as (escape_value e) (at + escape_width e)
+spelled at k = sym (ap (λ (x : Result Escaped BadEscape). spells_as (escape_value x) (at + escape_width x)) k)
 
-pub misspelled : {e x : Escaped} {r : Spelled} (at : ℕ) → e ≡ x → Wrong x → r ≡ Char 92 at → r ≡ Char (escape_value e) (at + escape_width e)
-misspelled {e} {x} {r} at k w z = z ∙ go x w ∙ ap (λ (y : Escaped). Char (escape_value y) (at + escape_width y)) (sym k)
+pub misspelled : {e : Result Escaped BadEscape} {x : BadEscape} {r : Option Spelled} (at : ℕ) → e ≡ Err x → r ≡ spells_as 92 at → r ≡ spells_as (escape_value e) (at + escape_width e)
+misspelled {e} {x} at k z = z ∙ still ∙ ap (λ (y : Result Escaped BadEscape). spells_as (escape_value y) (at + escape_width y)) (sym k)
   where
-    still : Char 92 at ≡ Char 92 (at + 0)
-    still = ap (Char 92) (let k : at ≡ at + 0 = omega arith in k)
-
-    go : (x : Escaped) → Wrong x → Char 92 at ≡ Char (escape_value x) (at + escape_width x)
-    go (Means v n) w = absurd w
-    go (Short n) w = still
-    go NotHex w = still
-    go Unknown w = still
+    still : spells_as 92 at ≡ spells_as 92 (at + 0)
+    still = ap (spells_as 92) (let k : at ≡ at + 0 = omega arith in k)
 
 module _ {s : Text} {o b : ℕ} (e : ByteOf s o b) where
-  pub piece_none : b ≡ 256 → End ≡ piece s o
+  pub piece_none : b ≡ 256 → None ≡ piece s o
   unfolding piece
   piece_none h = sym (ap (piece_in o) (from_end s o (ended e h)))
 
   module _ (h : b ≡ 256 → ⊥) where
-    piece_here : Char (value_in b (drop (o + 1) s)) (o + 1 + width_in b (drop (o + 1) s)) ≡ piece s o
+    piece_here : spells_as (value_in b (drop (o + 1) s)) (o + 1 + width_in b (drop (o + 1) s)) ≡ piece s o
     unfolding piece
     piece_here = sym (ap (piece_in o) (from_byte s o b e.is (not_ended e h)))
 
-    pub piece_escape : {r : Spelled} {x : Escaped} → b ≡ 92 → x ≡ escape s (o + 1) → r ≡ Char (escape_value x) (o + 1 + escape_width x) → r ≡ piece s o
+    pub piece_escape : {r : Spelled} {x : Result Escaped BadEscape} → b ≡ 92 → x ≡ escape s (o + 1) → r ≡ spelled_by x (o + 1) → Some r ≡ piece s o
     piece_escape {r} {x} k f z =
         let t = drop (o + 1) s in
         let y : x ≡ escape t 0 = f ∙ sym (escape_shift s (o + 1)) in
-        z
-        ∙ ap (λ (w : Escaped). Char (escape_value w) (o + 1 + escape_width w)) y
-        ∙ ap (λ (v : ℕ). Char v (o + 1 + escape_width (escape t 0))) (sym (value_escape b t k))
-        ∙ ap (λ (n : ℕ). Char (value_in b t) (o + 1 + n)) (sym (width_escape b t k))
+        ap Some z
+        ∙ ap (λ (w : Result Escaped BadEscape). Some (spelled_by w (o + 1))) y
+        ∙ ap (λ (v : ℕ). spells_as v (o + 1 + escape_width (escape t 0))) (sym (value_escape b t k))
+        ∙ ap (λ (n : ℕ). spells_as (value_in b t) (o + 1 + n)) (sym (width_escape b t k))
         ∙ piece_here
 
-    pub piece_ascii : (b ≡ 92 → ⊥) → b < 128 → Char b (o + 1) ≡ piece s o
+    pub piece_ascii : (b ≡ 92 → ⊥) → b < 128 → spells_as b (o + 1) ≡ piece s o
     piece_ascii n l =
         let t = drop (o + 1) s in
         let y : o + 1 ≡ o + 1 + width_in b t = let w = width_ascii b t n l in omega arith in
-        ap (Char b) y ∙ ap (λ (v : ℕ). Char v (o + 1 + width_in b t)) (sym (value_ascii b t n l)) ∙ piece_here
+        ap (spells_as b) y ∙ ap (λ (v : ℕ). spells_as v (o + 1 + width_in b t)) (sym (value_ascii b t n l)) ∙ piece_here
 
-    long : {v w n : ℕ} → 128 ≤ b → v ≡ char_of (drop o s) → w ≡ sequence_of (drop o s) → n ≡ o + 1 + (w - 1) → Char v n ≡ piece s o
+    long : {v w n : ℕ} → 128 ≤ b → v ≡ char_of (drop o s) → w ≡ sequence_of (drop o s) → n ≡ o + 1 + (w - 1) → spells_as v n ≡ piece s o
     long {v} {w} {n} l f g z =
         let t = drop (o + 1) s in
         let d : drop o s ≡ b ∷ t = from_byte s o b e.is (not_ended e h) in
         let y : n ≡ o + 1 + width_in b t = z ∙ ap (λ (k : ℕ). o + 1 + (k - 1)) (g ∙ ap sequence_of d) ∙ ap (λ (k : ℕ). o + 1 + k) (sym (width_long b t l)) in
-        ap (Char v) y ∙ ap (λ (k : ℕ). Char k (o + 1 + width_in b t)) (f ∙ ap char_of d ∙ sym (value_long b t l)) ∙ piece_here
+        ap (spells_as v) y ∙ ap (λ (k : ℕ). spells_as k (o + 1 + width_in b t)) (f ∙ ap char_of d ∙ sym (value_long b t l)) ∙ piece_here
 
-    pub piece_odd : {v w : ℕ} → 128 ≤ b → v ≡ char_of (drop o s) → w ≡ sequence_of (drop o s) → w ≡ 0 → Char v (o + 1) ≡ piece s o
+    pub piece_odd : {v w : ℕ} → 128 ≤ b → v ≡ char_of (drop o s) → w ≡ sequence_of (drop o s) → w ≡ 0 → spells_as v (o + 1) ≡ piece s o
     piece_odd l f g k = long l f g (omega arith)
 
-    pub piece_long : {v w : ℕ} → 128 ≤ b → v ≡ char_of (drop o s) → w ≡ sequence_of (drop o s) → (w ≡ 0 → ⊥) → Char v (o + w) ≡ piece s o
+    pub piece_long : {v w : ℕ} → 128 ≤ b → v ≡ char_of (drop o s) → w ≡ sequence_of (drop o s) → (w ≡ 0 → ⊥) → spells_as v (o + w) ≡ piece s o
     piece_long l f g k = long l f g (omega arith)
 
 -- the rest of the characters, from an offset on
@@ -159,26 +154,26 @@ decode_over zero t = refl
 decode_over (suc k) [] = refl
 decode_over (suc k) (b ∷ t) = decode_over k t
 
-pub piece_end : (s : Text) (o : ℕ) → End ≡ piece s o → decoded_from s o ≡ []
+pub piece_end : (s : Text) (o : ℕ) → None ≡ piece s o → decoded_from s o ≡ []
 unfolding piece decode
 piece_end s o = go (drop o s)
   where
-    go : (t : Text) → End ≡ piece_in o t → decode 0 t ≡ []
+    go : (t : Text) → None ≡ piece_in o t → decode 0 t ≡ []
     go [] e = refl
     go (b ∷ t) e = let z : ◌≡◌ {A = ℕ} 0 1 = cc in absurd (omega arith)
 
 -- a character, and what follows it
-pub piece_char : (s : Text) (o v n : ℕ) → Char v n ≡ piece s o → decoded_from s o ≡ v ∷ decoded_from s n
+pub piece_char : (s : Text) (o : ℕ) (x : Spelled) → Some x ≡ piece s o → decoded_from s o ≡ x.value ∷ decoded_from s x.next
 unfolding piece decode
-piece_char s o v n e = go (drop o s) refl e
+piece_char s o x e = go (drop o s) refl e
   where
-    go : (t : Text) → t ≡ drop o s → Char v n ≡ piece_in o t → decode 0 t ≡ v ∷ decoded_from s n
+    go : (t : Text) → t ≡ drop o s → Some x ≡ piece_in o t → decode 0 t ≡ x.value ∷ decoded_from s x.next
     go [] z e = let w : ◌≡◌ {A = ℕ} 0 1 = cc in absurd (omega arith)
     go (b ∷ t) z e =
-        let x : v ≡ value_in b t = cc in
-        let y : n ≡ o + 1 + width_in b t = cc in
-        let d : drop (width_in b t) t ≡ drop n s = ap (drop (width_in b t)) (rest s o b t z).1 ∙ drop-drop (width_in b t) (o + 1) s ∙ ap (λ (k : ℕ). drop k s) (sym y) in
-        ap (λ (w : ℕ). w ∷ decode (width_in b t) t) (sym x) ∙ ap (λ (l : List ℕ). v ∷ l) (decode_over (width_in b t) t ∙ ap (decode 0) d)
+        let v = (spells_parts e).0 in
+        let y = (spells_parts e).1 in
+        let d : drop (width_in b t) t ≡ drop x.next s = ap (drop (width_in b t)) (rest s o b t z).1 ∙ drop-drop (width_in b t) (o + 1) s ∙ ap (λ (k : ℕ). drop k s) (sym y) in
+        ap (λ (w : ℕ). w ∷ decode (width_in b t) t) (sym v) ∙ ap (λ (l : List ℕ). x.value ∷ l) (decode_over (width_in b t) t ∙ ap (decode 0) d)
 
 width_inside : (b : ℕ) (t : Text) → width_in b t ≤ length t
 unfolding width_in
@@ -190,21 +185,19 @@ width_inside b t =
     test_ℕ true x y = x
     test_ℕ false x y = y
 
-    esc : (e : Escaped) → 0 + reach e ≤ length t → escape_width e ≤ length t
-    esc (Means v n) h = omega arith
-    esc (Short n) h = omega arith
-    esc NotHex h = omega arith
-    esc Unknown h = omega arith
+    esc : (e : Result Escaped BadEscape) → 0 + reach e ≤ length t → escape_width e ≤ length t
+    esc (Ok t) h = omega arith
+    esc (Err g) h = omega arith
 
 -- a character has bytes, and they stand in the text
-pub piece_inside : (s : Text) (o v n : ℕ) → Char v n ≡ piece s o → (o < n) × (n ≤ length s)
+pub piece_inside : (s : Text) (o : ℕ) (x : Spelled) → Some x ≡ piece s o → (o < x.next) × (x.next ≤ length s)
 unfolding piece
-piece_inside s o v n e = go (drop o s) refl e
+piece_inside s o x e = go (drop o s) refl e
   where
-    go : (t : Text) → t ≡ drop o s → Char v n ≡ piece_in o t → (o < n) × (n ≤ length s)
+    go : (t : Text) → t ≡ drop o s → Some x ≡ piece_in o t → (o < x.next) × (x.next ≤ length s)
     go [] z e = let w : ◌≡◌ {A = ℕ} 0 1 = cc in absurd (omega arith)
     go (b ∷ t) z e =
-        let y : n ≡ o + 1 + width_in b t = cc in
+        let y = (spells_parts e).1 in
         let w = width_inside b t in
         let r = rest s o b t z in
         let l : o < length s = r.0 in
@@ -226,32 +219,32 @@ both : (l m : List ℕ) {x y : List ℕ} → x ≡ l → y ≡ m → same x y �
 both l m {x} {y} e f = ap (λ (z : List ℕ). same z y) e ∙ ap (same l) f
 
 module _ {a b : Text} {i j : ℕ} (h : Comparing a b i j) where
-  pub both_end : {x y : Spelled} → x ≡ piece a i → y ≡ piece b j → x ≡ End → y ≡ End → true ≡ same (decoded a) (decoded b)
+  pub both_end : None ≡ piece a i → None ≡ piece b j → true ≡ same (decoded a) (decoded b)
   unfolding same
-  both_end e f k l = sym (both [] [] (piece_end a i (sym k ∙ e)) (piece_end b j (sym l ∙ f))) ∙ h.still
+  both_end e f = sym (both [] [] (piece_end a i e) (piece_end b j f)) ∙ h.still
 
-  pub first_ends : {x y : Spelled} {v n : ℕ} → x ≡ piece a i → y ≡ piece b j → x ≡ End → y ≡ Char v n → false ≡ same (decoded a) (decoded b)
+  pub first_ends : {y : Spelled} → None ≡ piece a i → Some y ≡ piece b j → false ≡ same (decoded a) (decoded b)
   unfolding same
-  first_ends {v = v} {n = n} e f k l = sym (both [] (v ∷ decoded_from b n) (piece_end a i (sym k ∙ e)) (piece_char b j v n (sym l ∙ f))) ∙ h.still
+  first_ends {y} e f = sym (both [] (y.value ∷ decoded_from b y.next) (piece_end a i e) (piece_char b j y f)) ∙ h.still
 
-  pub second_ends : {x y : Spelled} {v n : ℕ} → x ≡ piece a i → y ≡ piece b j → x ≡ Char v n → y ≡ End → false ≡ same (decoded a) (decoded b)
+  pub second_ends : {x : Spelled} → Some x ≡ piece a i → None ≡ piece b j → false ≡ same (decoded a) (decoded b)
   unfolding same
-  second_ends {v = v} {n = n} e f k l = sym (both (v ∷ decoded_from a n) [] (piece_char a i v n (sym k ∙ e)) (piece_end b j (sym l ∙ f))) ∙ h.still
+  second_ends {x} e f = sym (both (x.value ∷ decoded_from a x.next) [] (piece_char a i x e) (piece_end b j f)) ∙ h.still
 
-  module _ {x y : Spelled} {v n w m : ℕ} (e : x ≡ piece a i) (f : y ≡ piece b j) (k : x ≡ Char v n) (l : y ≡ Char w m) where
-    here_both : same (decoded_from a i) (decoded_from b j) ≡ (eqb v w && same (decoded_from a n) (decoded_from b m))
+  module _ {x y : Spelled} (e : Some x ≡ piece a i) (f : Some y ≡ piece b j) where
+    here_both : same (decoded_from a i) (decoded_from b j) ≡ (eqb x.value y.value && same (decoded_from a x.next) (decoded_from b y.next))
     unfolding same
-    here_both = both (v ∷ decoded_from a n) (w ∷ decoded_from b m) (piece_char a i v n (sym k ∙ e)) (piece_char b j w m (sym l ∙ f))
+    here_both = both (x.value ∷ decoded_from a x.next) (y.value ∷ decoded_from b y.next) (piece_char a i x e) (piece_char b j y f)
 
-    pub differ : (v ≡ w → ⊥) → false ≡ same (decoded a) (decoded b)
-    differ d = sym (here_both ∙ ap (λ (t : Bool). t && same (decoded_from a n) (decoded_from b m)) (ne_eqb v w d)) ∙ h.still
+    pub differ : (x.value ≡ y.value → ⊥) → false ≡ same (decoded a) (decoded b)
+    differ d = sym (here_both ∙ ap (λ (t : Bool). t && same (decoded_from a x.next) (decoded_from b y.next)) (ne_eqb x.value y.value d)) ∙ h.still
 
-    pub compare_on : v ≡ w → Comparing a b n m
+    pub compare_on : x.value ≡ y.value → Comparing a b x.next y.next
     compare_on d =
         record {
-          still = sym (here_both ∙ ap (λ (t : Bool). t && same (decoded_from a n) (decoded_from b m)) (eq-eqb v w d)) ∙ h.still;
-          left = (piece_inside a i v n (sym k ∙ e)).1;
-          right = (piece_inside b j w m (sym l ∙ f)).1;
+          still = sym (here_both ∙ ap (λ (t : Bool). t && same (decoded_from a x.next) (decoded_from b y.next)) (eq-eqb x.value y.value d)) ∙ h.still;
+          left = (piece_inside a i x e).1;
+          right = (piece_inside b j y f).1;
         }
 
 -- ---- parts of the text
@@ -297,123 +290,119 @@ same_keys s a b {x} {y} e f z = z ∙ ap (λ (l : Text). same (decoded l) (decod
 
 -- ---- an accepted string: its span lies in the text, and each escape between its quotes is one, read with nothing but what stands there
 
-never : {A : Type 0} {e : Escaped} {v k : ℕ} → Wrong e → e ≡ Means v k → A
-never {e = e} {v = v} {k = k} w z = absurd (subst Wrong z w)
+never : {A : Type 0} {g : BadEscape} {v k : ℕ} → Err g ≡ means v k → A
+never {g = g} {v = v} {k = k} z = let w : ◌≡◌ {A = ℕ} 0 1 = cc in absurd (omega arith)
 
-named_more : (n v w k : ℕ) → named n v ≡ Means w k → n + 3 ≤ k
-named_more zero v w k e = never {e = Short 2} tt e
+named_more : (n v w k : ℕ) → named n v ≡ means w k → n + 3 ≤ k
+named_more zero v w k e = never e
 named_more (suc n) v w k e = go (is_scalar v) e
   where
-    go : (t : Bool) → elim t as (λ u. Escaped) [ true ↦ Means v (suc n + 3) | false ↦ Short (suc n + 3) ] ≡ Means w k → suc n + 3 ≤ k
-    go true e = let z : suc n + 3 ≡ k = cc in omega arith
-    go false e = never {e = Short (suc n + 3)} tt e
+    go : (t : Bool) → elim t as (λ u. Result Escaped BadEscape) [ true ↦ means v (suc n + 3) | false ↦ Err (Short (suc n + 3)) ] ≡ means w k → suc n + 3 ≤ k
+    go true e = let z = means_width e in omega arith
+    go false e = never e
 
-digits_more : (t : Text) (n v w k : ℕ) → digits n v t ≡ Means w k → n + 3 ≤ k
+digits_more : (t : Text) (n v w k : ℕ) → digits n v t ≡ means w k → n + 3 ≤ k
 unfolding digits closing
-digits_more [] n v w k e = never {e = Short (n + 2)} tt e
+digits_more [] n v w k e = never e
 digits_more (b ∷ t) n v w k e = go (ltb (digit_of b) 16) (ltb n 6) (eqb b 125) (digits_more t (n + 1) (v * 16 + digit_of b) w k) e
   where
-    go : (x y z : Bool) → (digits (n + 1) (v * 16 + digit_of b) t ≡ Means w k → n + 1 + 3 ≤ k)
-        → elim x as (λ u. Escaped) [ true ↦ elim y as (λ u. Escaped) [ true ↦ digits (n + 1) (v * 16 + digit_of b) t | false ↦ Short (n + 2) ] | false ↦ elim z as (λ u. Escaped) [ true ↦ named n v | false ↦ Short (n + 2) ] ] ≡ Means w k
+    go : (x y z : Bool) → (digits (n + 1) (v * 16 + digit_of b) t ≡ means w k → n + 1 + 3 ≤ k)
+        → elim x as (λ u. Result Escaped BadEscape) [ true ↦ elim y as (λ u. Result Escaped BadEscape) [ true ↦ digits (n + 1) (v * 16 + digit_of b) t | false ↦ Err (Short (n + 2)) ] | false ↦ elim z as (λ u. Result Escaped BadEscape) [ true ↦ named n v | false ↦ Err (Short (n + 2)) ] ] ≡ means w k
         → n + 3 ≤ k
     go true true z ih e = let l = ih e in omega arith
-    go true false z ih e = never {e = Short (n + 2)} tt e
+    go true false z ih e = never e
     go false y true ih e = named_more n v w k e
-    go false y false ih e = never {e = Short (n + 2)} tt e
+    go false y false ih e = never e
 
 -- digits that end in a text end in each text with the same bytes
-digits_stable : (t u : Text) (n v w k l : ℕ) → Alike l t u → digits n v t ≡ Means w k → k ≤ n + 2 + l → digits n v u ≡ Means w k
+digits_stable : (t u : Text) (n v w k l : ℕ) → Alike l t u → digits n v t ≡ means w k → k ≤ n + 2 + l → digits n v u ≡ means w k
 unfolding digits closing
-digits_stable [] u n v w k l a e h = never {e = Short (n + 2)} tt e
+digits_stable [] u n v w k l a e h = never e
 digits_stable (b ∷ t) u n v w k zero a e h = let z = digits_more (b ∷ t) n v w k e in absurd (omega arith)
 digits_stable (b ∷ t) [] n v w k (suc l) a e h = alike_none a
 digits_stable (b ∷ t) (c ∷ u) n v w k (suc l) a e h =
     ap (λ (x : ℕ). digits n v (x ∷ u)) (sym (alike_byte 0 (omega arith) a))
     ∙ go (ltb (digit_of b) 16) (ltb n 6) (λ f. digits_stable t u (n + 1) (v * 16 + digit_of b) w k l (alike_rest a) f (omega arith)) e
   where
-    rest_of : Escaped
+    rest_of : Result Escaped BadEscape
     rest_of = closing b n v
 
-    go : (x y : Bool) → (digits (n + 1) (v * 16 + digit_of b) t ≡ Means w k → digits (n + 1) (v * 16 + digit_of b) u ≡ Means w k)
-        → elim x as (λ z. Escaped) [ true ↦ elim y as (λ z. Escaped) [ true ↦ digits (n + 1) (v * 16 + digit_of b) t | false ↦ Short (n + 2) ] | false ↦ rest_of ] ≡ Means w k
-        → elim x as (λ z. Escaped) [ true ↦ elim y as (λ z. Escaped) [ true ↦ digits (n + 1) (v * 16 + digit_of b) u | false ↦ Short (n + 2) ] | false ↦ rest_of ] ≡ Means w k
+    go : (x y : Bool) → (digits (n + 1) (v * 16 + digit_of b) t ≡ means w k → digits (n + 1) (v * 16 + digit_of b) u ≡ means w k)
+        → elim x as (λ z. Result Escaped BadEscape) [ true ↦ elim y as (λ z. Result Escaped BadEscape) [ true ↦ digits (n + 1) (v * 16 + digit_of b) t | false ↦ Err (Short (n + 2)) ] | false ↦ rest_of ] ≡ means w k
+        → elim x as (λ z. Result Escaped BadEscape) [ true ↦ elim y as (λ z. Result Escaped BadEscape) [ true ↦ digits (n + 1) (v * 16 + digit_of b) u | false ↦ Err (Short (n + 2)) ] | false ↦ rest_of ] ≡ means w k
     go true true ih e = ih e
     go true false ih e = e
     go false y ih e = e
 
-hex_three : (h l v k : ℕ) → hex_by h l ≡ Means v k → k ≡ 3
+hex_three : (h l v k : ℕ) → hex_by h l ≡ means v k → k ≡ 3
 unfolding hex_by
 hex_three h l v k e = go (ltb h 16 && ltb l 16 && leb (h * 16 + l) 127) e
   where
-    go : (t : Bool) → elim t as (λ u. Escaped) [ true ↦ Means (h * 16 + l) 3 | false ↦ NotHex ] ≡ Means v k → k ≡ 3
-    go true e = cc
-    go false e = never {e = NotHex} tt e
+    go : (t : Bool) → elim t as (λ u. Result Escaped BadEscape) [ true ↦ means (h * 16 + l) 3 | false ↦ Err NotHex ] ≡ means v k → k ≡ 3
+    go true e = sym (means_width e)
+    go false e = never e
 
 module _ (t : Text) (v k : ℕ) where
-  brace_more : unicode t 1 ≡ Means v k → 3 ≤ k
+  brace_more : unicode t 1 ≡ means v k → 3 ≤ k
   unfolding unicode
   brace_more e = go (eqb (byte_at t 1) 123) e
     where
-      go : (u : Bool) → elim u as (λ w. Escaped) [ true ↦ digits 0 0 (drop 2 t) | false ↦ Short 1 ] ≡ Means v k → 3 ≤ k
+      go : (u : Bool) → elim u as (λ w. Result Escaped BadEscape) [ true ↦ digits 0 0 (drop 2 t) | false ↦ Err (Short 1) ] ≡ means v k → 3 ≤ k
       go true e = let z = digits_more (drop 2 t) 0 0 v k e in omega arith
-      go false e = never {e = Short 1} tt e
+      go false e = never e
 
   -- an escape is one letter or one of the long forms
-  by_form : (R : Type 0) (b : ℕ) (x u : Escaped) → escape_with b x u ≡ Means v k → (k ≡ 1 → R) → (x ≡ Means v k → R) → (u ≡ Means v k → R) → R
+  by_form : (R : Type 0) (b : ℕ) (x u : Result Escaped BadEscape) → escape_with b x u ≡ means v k → (k ≡ 1 → R) → (x ≡ means v k → R) → (u ≡ means v k → R) → R
   by_form R b x u e one hex brace = go (ltb (letter_of b) 256) (eqb b 120) (eqb b 117) e
     where
-      go : (t1 t2 t3 : Bool) → elim t1 as (λ y. Escaped) [ true ↦ Means (letter_of b) 1 | false ↦ elim t2 as (λ y. Escaped) [ true ↦ x | false ↦ elim t3 as (λ y. Escaped) [ true ↦ u | false ↦ Unknown ] ] ] ≡ Means v k → R
-      go true t2 t3 e = one (cc)
+      go : (t1 t2 t3 : Bool) → elim t1 as (λ y. Result Escaped BadEscape) [ true ↦ means (letter_of b) 1 | false ↦ elim t2 as (λ y. Result Escaped BadEscape) [ true ↦ x | false ↦ elim t3 as (λ y. Result Escaped BadEscape) [ true ↦ u | false ↦ Err Unknown ] ] ] ≡ means v k → R
+      go true t2 t3 e = one (sym (means_width e))
       go false true t3 e = hex e
       go false false true e = brace e
-      go false false false e = never {e = Unknown} tt e
+      go false false false e = never e
 
-  one_form : (t1 : Bool) (a : Escaped) {x y : Escaped} → (x ≡ Means v k → y ≡ Means v k) → elim t1 as (λ z. Escaped) [ true ↦ a | false ↦ x ] ≡ Means v k → elim t1 as (λ z. Escaped) [ true ↦ a | false ↦ y ] ≡ Means v k
+  one_form : (t1 : Bool) (a : Result Escaped BadEscape) {x y : Result Escaped BadEscape} → (x ≡ means v k → y ≡ means v k) → elim t1 as (λ z. Result Escaped BadEscape) [ true ↦ a | false ↦ x ] ≡ means v k → elim t1 as (λ z. Result Escaped BadEscape) [ true ↦ a | false ↦ y ] ≡ means v k
   one_form true a f e = e
   one_form false a f e = f e
 
-  a_form : (t1 : Bool) {a c x y : Escaped} → (a ≡ Means v k → c ≡ Means v k) → (x ≡ Means v k → y ≡ Means v k) → elim t1 as (λ z. Escaped) [ true ↦ a | false ↦ x ] ≡ Means v k → elim t1 as (λ z. Escaped) [ true ↦ c | false ↦ y ] ≡ Means v k
+  a_form : (t1 : Bool) {a c x y : Result Escaped BadEscape} → (a ≡ means v k → c ≡ means v k) → (x ≡ means v k → y ≡ means v k) → elim t1 as (λ z. Result Escaped BadEscape) [ true ↦ a | false ↦ x ] ≡ means v k → elim t1 as (λ z. Result Escaped BadEscape) [ true ↦ c | false ↦ y ] ≡ means v k
   a_form true g f e = g e
   a_form false g f e = f e
 
-  pub escape_more : escape t 0 ≡ Means v k → 1 ≤ k
+  pub escape_more : escape t 0 ≡ means v k → 1 ≤ k
   escape_more e =
       by_form (1 ≤ k) (byte_at t 0) (hex_at t 0) (unicode t 1) (sym (escape_with_lem t 0) ∙ e) (λ z. omega arith)
       (λ z. let w = hex_three (digit_of (byte_at t 1)) (digit_of (byte_at t 2)) v k z in omega arith) (λ z. let w = brace_more z in omega arith)
 
   module _ (u : Text) (a : Alike k t u) where
-    hex_stable : hex_at t 0 ≡ Means v k → hex_at u 0 ≡ Means v k
+    hex_stable : hex_at t 0 ≡ means v k → hex_at u 0 ≡ means v k
     hex_stable e =
         let z = hex_three (digit_of (byte_at t 1)) (digit_of (byte_at t 2)) v k e in
         ap (λ (x : ℕ). hex_by (digit_of x) (digit_of (byte_at u 2))) (sym (alike_byte 1 (omega arith) a))
         ∙ ap (λ (x : ℕ). hex_by (digit_of (byte_at t 1)) (digit_of x)) (sym (alike_byte 2 (omega arith) a))
         ∙ e
 
-    brace_stable : unicode t 1 ≡ Means v k → unicode u 1 ≡ Means v k
+    brace_stable : unicode t 1 ≡ means v k → unicode u 1 ≡ means v k
     unfolding unicode
     brace_stable e =
-        ap (λ (x : ℕ). elim (eqb x 123) as (λ w. Escaped) [ true ↦ digits 0 0 (drop 2 u) | false ↦ Short 1 ]) (sym (alike_byte 1 (omega (arith, brace_more e)) a))
+        ap (λ (x : ℕ). elim (eqb x 123) as (λ w. Result Escaped BadEscape) [ true ↦ digits 0 0 (drop 2 u) | false ↦ Err (Short 1) ]) (sym (alike_byte 1 (omega (arith, brace_more e)) a))
         ∙ go (eqb (byte_at t 1) 123) e
       where
-        go : (y : Bool) → elim y as (λ w. Escaped) [ true ↦ digits 0 0 (drop 2 t) | false ↦ Short 1 ] ≡ Means v k → elim y as (λ w. Escaped) [ true ↦ digits 0 0 (drop 2 u) | false ↦ Short 1 ] ≡ Means v k
+        go : (y : Bool) → elim y as (λ w. Result Escaped BadEscape) [ true ↦ digits 0 0 (drop 2 t) | false ↦ Err (Short 1) ] ≡ means v k → elim y as (λ w. Result Escaped BadEscape) [ true ↦ digits 0 0 (drop 2 u) | false ↦ Err (Short 1) ] ≡ means v k
         go true e =
             let z = digits_more (drop 2 t) 0 0 v k e in
             digits_stable (drop 2 t) (drop 2 u) 0 0 v k (k - 2) (alike_drop 2 (omega arith) a) e (omega arith)
         go false e = e
 
     -- so an escape is decided by its own bytes
-    pub escape_stable : escape t 0 ≡ Means v k → escape u 0 ≡ Means v k
+    pub escape_stable : escape t 0 ≡ means v k → escape u 0 ≡ means v k
     escape_stable e =
         let b = byte_at t 0 in
         escape_with_lem u 0
         ∙ ap (λ (x : ℕ). escape_with x (hex_at u 0) (unicode u 1)) (sym (alike_byte 0 (omega (arith, escape_more e)) a))
-        ∙ one_form (ltb (letter_of b) 256) (Means (letter_of b) 1)
+        ∙ one_form (ltb (letter_of b) 256) (means (letter_of b) 1)
         (a_form (eqb b 120) hex_stable (a_form (eqb b 117) brace_stable (λ z. z)))
         (sym (escape_with_lem t 0) ∙ e)
-
-abbrev Refused : Must → Type 0
-Refused (Taken h n) = ⊥
-Refused (Failed k n) = Unit {0}
 
 -- what an accepted string has, from the offset o on, where so many bytes are read already
 pub record Spelt (s : Text) (o left : ℕ) (t : Text) (n : Place) : Type 0 where
@@ -425,12 +414,12 @@ pub record Spelt (s : Text) (o left : ℕ) (t : Text) (n : Place) : Type 0 where
   pub stands : Stands s n
 
 module _ (s : Text) (at : Place) (q : ℕ) (h n : Place) where
-  not_taken : {A : Type 0} {m : Must} → Refused m → m ≡ Taken h n → A
-  not_taken w e = absurd (subst Refused e w)
+  not_taken : {A : Type 0} {f : Refused} → Err f ≡ taken h n → A
+  not_taken {f = f} e = let w : ◌≡◌ {A = ℕ} 0 1 = cc in absurd (omega arith)
 
-  pub scan_spelt : (t : Text) (left o : ℕ) (p : Place) → t ≡ drop o s → o + left ≡ p.offset → Stands s p → scan s at q left t p ≡ Taken h n → (h ≡ at) × Spelt s o left t n
+  pub scan_spelt : (t : Text) (left o : ℕ) (p : Place) → t ≡ drop o s → o + left ≡ p.offset → Stands s p → scan s at q left t p ≡ taken h n → (h ≡ at) × Spelt s o left t n
   unfolding scan sound
-  scan_spelt [] left o p z f st e = not_taken {m = Failed EndOfInput p} tt e
+  scan_spelt [] left o p z f st e = not_taken e
   scan_spelt (b ∷ t) (suc left) o p z f st e =
       let r = scan_spelt t left (o + 1) p (rest s o b t z).1 (omega arith) st e in
       let i = r.1 in
@@ -456,29 +445,27 @@ module _ (s : Text) (at : Place) (q : ℕ) (h n : Place) where
       plain : eqb b 92 ≡ false → (i : Spelt s (o + 1) 0 t n) → sound zero (b ∷ take i.more t) ≡ true
       plain x i = rw (x, sound) i.good
 
-      spelt_escape : (v k : ℕ) → eqb b 92 ≡ true → escape s (p.offset + 1) ≡ Means v k → (i : Spelt s (o + 1) k t n) → sound zero (b ∷ take i.more t) ≡ true
+      spelt_escape : (v k : ℕ) → eqb b 92 ≡ true → escape s (p.offset + 1) ≡ means v k → (i : Spelt s (o + 1) k t n) → sound zero (b ∷ take i.more t) ≡ true
       spelt_escape v k x y i =
-          let w : escape (take i.more t) 0 ≡ Means v k = escape_stable t v k (take i.more t) (alike_front t i.enough) (ap (λ (l : Text). escape l 0) follows ∙ escape_shift s (p.offset + 1) ∙ y) in
+          let w : escape (take i.more t) 0 ≡ means v k = escape_stable t v k (take i.more t) (alike_front t i.enough) (ap (λ (l : Text). escape l 0) follows ∙ escape_shift s (p.offset + 1) ∙ y) in
           rw (x, w, sound) i.good
 
-      go : (x y : Bool) (r : Escaped) → eqb b 92 ≡ y → escape s (p.offset + 1) ≡ r
-          → ((left : ℕ) (p' : Place) → o + 1 + left ≡ p'.offset → Stands s p' → scan s at q left t p' ≡ Taken h n → (h ≡ at) × Spelt s (o + 1) left t n)
-          → elim x as (λ w. Must) [ true ↦ Taken at (past b p) | false ↦ elim y as (λ w. Must) [ true ↦ elim r as (λ w. Must) [ Means v k ↦ scan s at q k t (on_by (1 + k) p) | Short k ↦ Failed BadStringEscape (strayed s (on_by 1 p) (Short k)) | NotHex ↦ Failed BadStringEscape (strayed s (on_by 1 p) NotHex) | Unknown ↦ Failed BadStringEscape (strayed s (on_by 1 p) Unknown) ] | false ↦ scan s at q zero t (past b p) ] ] ≡ Taken h n
+      go : (x y : Bool) (r : Result Escaped BadEscape) → eqb b 92 ≡ y → escape s (p.offset + 1) ≡ r
+          → ((left : ℕ) (p' : Place) → o + 1 + left ≡ p'.offset → Stands s p' → scan s at q left t p' ≡ taken h n → (h ≡ at) × Spelt s (o + 1) left t n)
+          → elim x as (λ w. Must) [ true ↦ taken at (past b p) | false ↦ elim y as (λ w. Must) [ true ↦ elim r as (λ w. Must) [ Ok x ↦ scan s at q x.width t (on_by (1 + x.width) p) | Err g ↦ failed BadStringEscape (strayed s (on_by 1 p) g) ] | false ↦ scan s at q zero t (past b p) ] ] ≡ taken h n
           → (h ≡ at) × Spelt s o zero (b ∷ t) n
       go true y r c d ih e =
           let a = past_stands s b p st (omega (arith, here_in)) in
-          let w : h ≡ at = cc in
-          let x : n ≡ past b p = cc in
+          let w = sym (taken_here e) in
+          let x = sym (taken_next e) in
           let u : n.offset ≡ p.offset + 1 = ap (λ (k : Place). k.offset) x ∙ past_offset b p in
           (w, record { more = 0; ends = omega arith; enough = omega arith; inside = omega arith; good = refl; stands = subst⁻¹ (λ (k : Place). Stands s k) x a.stands })
-      go false true (Means v k) c d ih e =
+      go false true (Ok t) c d ih e =
           let u = escape_inside s (p.offset + 1) (omega (arith, here_in)) in
-          let w : reach (escape s (p.offset + 1)) ≡ k = ap reach d in
-          let r = ih k (on_by (1 + k) p) (omega arith) (on_by_stands s (1 + k) p st (omega arith)).stands e in
-          (r.0, one_more k r.1 (spelt_escape v k c d r.1))
-      go false true (Short k) c d ih e = not_taken {m = Failed BadStringEscape (strayed s (on_by 1 p) (Short k))} tt e
-      go false true NotHex c d ih e = not_taken {m = Failed BadStringEscape (strayed s (on_by 1 p) NotHex)} tt e
-      go false true Unknown c d ih e = not_taken {m = Failed BadStringEscape (strayed s (on_by 1 p) Unknown)} tt e
+          let w : reach (escape s (p.offset + 1)) ≡ t.width = ap reach d in
+          let r = ih t.width (on_by (1 + t.width) p) (omega arith) (on_by_stands s (1 + t.width) p st (omega arith)).stands e in
+          (r.0, one_more t.width r.1 (spelt_escape t.value t.width c d r.1))
+      go false true (Err g) c d ih e = not_taken e
       go false false r c d ih e =
           let a = past_stands s b p st (omega (arith, here_in)) in
           let u = past_offset b p in
@@ -492,12 +479,12 @@ pub record Literal (s : Text) (p h n : Place) : Type 0 where
   pub stands : Stands s n
   pub spelt : sound 0 (part s (p.offset + 1) (n.offset - 1)) ≡ true
 
-pub string_accepted : (s : Text) (p h n : Place) → Stands s p → string s p ≡ Taken h n → Literal s p h n
+pub string_accepted : (s : Text) (p h n : Place) → Stands s p → string s p ≡ taken h n → Literal s p h n
 unfolding string
 string_accepted s p h n st e = go (drop p.offset s) refl e
   where
-    go : (t : Text) → t ≡ drop p.offset s → string_by s p t ≡ Taken h n → Literal s p h n
-    go [] z e = not_taken s p 0 h n {m = Failed EndOfInput p} tt e
+    go : (t : Text) → t ≡ drop p.offset s → string_by s p t ≡ taken h n → Literal s p h n
+    go [] z e = not_taken s p 0 h n e
     go (q ∷ t) z e =
         let k = rest s p.offset q t z in
         let a = past_stands s q p st k.0 in

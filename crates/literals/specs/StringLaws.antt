@@ -1,5 +1,5 @@
 -- Laws of strings: how one escape and one byte lead to the next, and that a literal's span lies in the text. Assumes nothing.
-use Rattle.std.specs.Prelude.{◌≡◌, Bool, ◌&&◌, eqb, length}
+use Rattle.std.specs.Prelude.{◌≡◌, Bool, ◌&&◌, eqb, length, Err, Ok, Result}
 use Rattle.std.proofs.Math.Path.{refl, ap, subst⁻¹}
 use Rattle.std.proofs.Common.{sym, ◌∙◌, arith, add-one, pow-suc, length-drop}
 use Rattle.std.proofs.Math.Bool.{true, false}
@@ -12,16 +12,17 @@ use lib.Seq.{drop-drop}
 use borrow.Author.Tests.{ltb-true, ltb-false, leb-true, eqb-true, lt-ltb, le-ltb, le-leb, lt-leb, ne_eqb, eq-eqb}
 use Rattle.characters.specs.declared.place.Place.{Place}
 use Rattle.characters.specs.declared.refusal.Refusal.TheVariants.{EndOfInput, BadStringEscape}
-use Rattle.characters.specs.declared.tokens.Must.{Must}
-use Rattle.characters.specs.declared.tokens.Must.TheVariants.{Taken, Failed}
 use Rattle.characters.specs.Text.{Text, byte_at, ByteOf, on_by, past, past_end, tails, next, is_tail, Stands}
 use Rattle.characters.specs.PlaceLaws.{Reached, Advanced, reached_here, reached_on, advanced_reached, in_text, at_end, from_byte, from_end, past_offset, past_stands, on_by_stands, next_end, next_in}
 use Rattle.characters.specs.BlankLaws.{rest}
-use Rattle.literals.specs.declared.strings.Escaped.{Escaped}
-use Rattle.literals.specs.declared.strings.Escaped.TheVariants.{Means, Short, NotHex, Unknown}
+use Rattle.literals.specs.declared.strings.BadEscape.TheVariants.{Short, NotHex, Unknown}
 use Rattle.literals.specs.Numbers.{digit_of}
 use Rattle.literals.specs.NumberLaws.{digit_ascii, choice}
 use Rattle.literals.specs.Strings.{hex_by, is_scalar, named, closing, digits, unicode, among, letter_of, escape_by, escape, reach, strayed, scan, string_by, string}
+use Rattle.characters.specs.Answers.{Must, failed, taken}
+use Rattle.literals.specs.Answers.{means}
+use Rattle.literals.specs.declared.strings.BadEscape.{BadEscape}
+use Rattle.literals.specs.declared.strings.Escaped.{Escaped}
 
 -- ---- the byte that was read
 
@@ -47,33 +48,33 @@ byte_in {s} {o} {b} e h = in_text s o (let z = e.is in omega arith)
 -- ---- `\x`
 
 module _ (h l : ℕ) where
-  pub pair_high : 8 ≤ h → NotHex ≡ hex_by h l
+  pub pair_high : 8 ≤ h → Err NotHex ≡ hex_by h l
   unfolding hex_by
   pair_high x = go (ltb h 16) (ltb l 16) (leb (h * 16 + l) 127) refl
     where
-      go : (t u v : Bool) → leb (h * 16 + l) 127 ≡ v → NotHex ≡ elim (t && u && v) as (λ w. Escaped) [ true ↦ Means (h * 16 + l) 3 | false ↦ NotHex ]
+      go : (t u v : Bool) → leb (h * 16 + l) 127 ≡ v → Err NotHex ≡ elim (t && u && v) as (λ w. Result Escaped BadEscape) [ true ↦ means (h * 16 + l) 3 | false ↦ Err NotHex ]
       go true true true e = let z = leb-true (h * 16 + l) 127 e in absurd (omega arith)
       go true true false e = refl
       go true false v e = refl
       go false u v e = refl
 
-  pub pair_none : 16 ≤ l → NotHex ≡ hex_by h l
+  pub pair_none : 16 ≤ l → Err NotHex ≡ hex_by h l
   unfolding hex_by
   pair_none x = go (ltb h 16) (ltb l 16) (leb (h * 16 + l) 127) refl
     where
-      go : (t u v : Bool) → ltb l 16 ≡ u → NotHex ≡ elim (t && u && v) as (λ w. Escaped) [ true ↦ Means (h * 16 + l) 3 | false ↦ NotHex ]
+      go : (t u v : Bool) → ltb l 16 ≡ u → Err NotHex ≡ elim (t && u && v) as (λ w. Result Escaped BadEscape) [ true ↦ means (h * 16 + l) 3 | false ↦ Err NotHex ]
       go true true v e = let z = ltb-true l 16 e in absurd (omega arith)
       go true false v e = refl
       go false u v e = refl
 
-  pub pair_low : h < 8 → l < 16 → Means (h * 16 + l) 3 ≡ hex_by h l
+  pub pair_low : h < 8 → l < 16 → means (h * 16 + l) 3 ≡ hex_by h l
   unfolding hex_by
   pair_low x y = rw (hex_by, lt-ltb h 16 (omega arith), lt-ltb l 16 y, le-leb (h * 16 + l) 127 (omega arith))
 
 -- ---- `\u{}`
 
 module _ (b n v : ℕ) where
-  pub close_not : (b ≡ 125 → ⊥) → Short (n + 2) ≡ closing b n v
+  pub close_not : (b ≡ 125 → ⊥) → Err (Short (n + 2)) ≡ closing b n v
   unfolding closing
   close_not x = rw (closing, ne_eqb b 125 x)
 
@@ -81,26 +82,26 @@ module _ (b n v : ℕ) where
   unfolding closing
   closes x = rw (closing, eq-eqb b 125 x)
 
-  pub close_none : b ≡ 125 → n ≡ 0 → Short 2 ≡ closing b n v
+  pub close_none : b ≡ 125 → n ≡ 0 → Err (Short 2) ≡ closing b n v
   close_none x y = sym (closes x ∙ ap (λ (k : ℕ). named k v) y)
 
-  by_value : b ≡ 125 → (n ≡ 0 → ⊥) → (t : Bool) → is_scalar v ≡ t → closing b n v ≡ elim t as (λ u. Escaped) [ true ↦ Means v (n + 3) | false ↦ Short (n + 3) ]
-  by_value x y t e = closes x ∙ ap (λ (k : ℕ). named k v) up ∙ ap (λ (u : Bool). elim u as (λ w. Escaped) [ true ↦ Means v (suc (n - 1) + 3) | false ↦ Short (suc (n - 1) + 3) ]) e
-      ∙ ap (λ (k : ℕ). elim t as (λ w. Escaped) [ true ↦ Means v (k + 3) | false ↦ Short (k + 3) ]) (sym up)
+  by_value : b ≡ 125 → (n ≡ 0 → ⊥) → (t : Bool) → is_scalar v ≡ t → closing b n v ≡ elim t as (λ u. Result Escaped BadEscape) [ true ↦ means v (n + 3) | false ↦ Err (Short (n + 3)) ]
+  by_value x y t e = closes x ∙ ap (λ (k : ℕ). named k v) up ∙ ap (λ (u : Bool). elim u as (λ w. Result Escaped BadEscape) [ true ↦ means v (suc (n - 1) + 3) | false ↦ Err (Short (suc (n - 1) + 3)) ]) e
+      ∙ ap (λ (k : ℕ). elim t as (λ w. Result Escaped BadEscape) [ true ↦ means v (k + 3) | false ↦ Err (Short (k + 3)) ]) (sym up)
     where
       up : n ≡ suc (n - 1)
       up = omega arith
 
-  pub close_low : b ≡ 125 → (n ≡ 0 → ⊥) → v < 55296 → Means v (n + 3) ≡ closing b n v
+  pub close_low : b ≡ 125 → (n ≡ 0 → ⊥) → v < 55296 → means v (n + 3) ≡ closing b n v
   close_low x y z = sym (by_value x y true (rw (lt-ltb v 55296 z)))
 
-  pub close_high : b ≡ 125 → (n ≡ 0 → ⊥) → 57344 ≤ v → v < 1114112 → Means v (n + 3) ≡ closing b n v
+  pub close_high : b ≡ 125 → (n ≡ 0 → ⊥) → 57344 ≤ v → v < 1114112 → means v (n + 3) ≡ closing b n v
   close_high x y l h = sym (by_value x y true (rw (le-ltb v 55296 (omega arith), le-leb 57344 v l, le-leb v 1114111 (omega arith))))
 
-  pub close_pair : b ≡ 125 → (n ≡ 0 → ⊥) → 55296 ≤ v → v < 57344 → Short (n + 3) ≡ closing b n v
+  pub close_pair : b ≡ 125 → (n ≡ 0 → ⊥) → 55296 ≤ v → v < 57344 → Err (Short (n + 3)) ≡ closing b n v
   close_pair x y l h = sym (by_value x y false (rw (le-ltb v 55296 l, lt-leb 57344 v h)))
 
-  pub close_over : b ≡ 125 → (n ≡ 0 → ⊥) → 1114112 ≤ v → Short (n + 3) ≡ closing b n v
+  pub close_over : b ≡ 125 → (n ≡ 0 → ⊥) → 1114112 ≤ v → Err (Short (n + 3)) ≡ closing b n v
   close_over x y l = sym (by_value x y false (rw (le-ltb v 55296 (omega arith), le-leb 57344 v (omega arith), lt-leb v 1114111 l)))
 
 module _ (s : Text) (o b n v : ℕ) (e : b ≡ byte_at s o) where
@@ -113,10 +114,10 @@ module _ (s : Text) (o b n v : ℕ) (e : b ≡ byte_at s o) where
       go : (t : Text) → digits n v (b ∷ t) ≡ digits (n + 1) (v * 16 + digit_of b) t
       go t = unfold digits in rw (lt-ltb (digit_of b) 16 h, lt-ltb n 6 l, digits) refl
 
-  pub digits_full : digit_of b < 16 → 6 ≤ n → digits n v (drop o s) ≡ Short (n + 2)
+  pub digits_full : digit_of b < 16 → 6 ≤ n → digits n v (drop o s) ≡ Err (Short (n + 2))
   digits_full h l = here (let z = digit_ascii b h in omega arith) ∙ go (drop (o + 1) s)
     where
-      go : (t : Text) → digits n v (b ∷ t) ≡ Short (n + 2)
+      go : (t : Text) → digits n v (b ∷ t) ≡ Err (Short (n + 2))
       go t = unfold digits in rw (lt-ltb (digit_of b) 16 h, le-ltb n 6 l, digits) refl
 
   pub digits_end : 16 ≤ digit_of b → digits n v (drop o s) ≡ closing b n v
@@ -144,7 +145,7 @@ pub record Digits (s : Text) (at o n v : ℕ) : Type 0 where
   pub small : v < 16 ^ n
   pub inside : o ≤ length s
 
-pub unopened : {s : Text} {at b : ℕ} → ByteOf s at b → (b ≡ 123 → ⊥) → Short 1 ≡ unicode s at
+pub unopened : {s : Text} {at b : ℕ} → ByteOf s at b → (b ≡ 123 → ⊥) → Err (Short 1) ≡ unicode s at
 unfolding unicode
 unopened {s} {at} {b} e h = rw (unicode, ne_eqb (byte_at s at) 123 (λ z. h (e.is ∙ z)))
 
@@ -178,12 +179,12 @@ digits_room {s} {at} {o} {n} {v} i k =
     let y : 16 ^ n ≤ 16 ^ 5 = pow-le-pow_right {n = 16} (omega arith) z in
     omega arith
 
-pub digits_shut : {s : Text} {at o n v b d : ℕ} {r : Escaped} → Digits s at o n v → ByteOf s o b → d ≡ digit_of b → 16 ≤ d → r ≡ closing b n v → r ≡ unicode s at
+pub digits_shut : {s : Text} {at o n v b d : ℕ} {r : Result Escaped BadEscape} → Digits s at o n v → ByteOf s o b → d ≡ digit_of b → 16 ≤ d → r ≡ closing b n v → r ≡ unicode s at
 digits_shut {s} {at} {o} {n} {v} {b} i e f h z = z ∙ sym (digits_end s o b n v e.is (omega arith)) ∙ i.same
 
-pub digits_over : {s : Text} {at o n v b d : ℕ} → Digits s at o n v → ByteOf s o b → d ≡ digit_of b → d < 16 → n ≡ 6 → Short 8 ≡ unicode s at
+pub digits_over : {s : Text} {at o n v b d : ℕ} → Digits s at o n v → ByteOf s o b → d ≡ digit_of b → d < 16 → n ≡ 6 → Err (Short 8) ≡ unicode s at
 digits_over {s} {at} {o} {n} {v} {b} i e f h k =
-    ap (λ (y : ℕ). Short (y + 2)) (sym k) ∙ sym (digits_full s o b n v e.is (omega arith) (omega arith)) ∙ i.same
+    ap (λ (y : ℕ). Err (Short (y + 2))) (sym k) ∙ sym (digits_full s o b n v e.is (omega arith) (omega arith)) ∙ i.same
 
 -- ---- the escapes of one letter
 
@@ -222,17 +223,17 @@ opens : {s : Text} {o b : ℕ} → ByteOf s o b → escape_by s o b ≡ escape s
 unfolding escape
 opens {s} {o} e = ap (escape_by s o) e.is
 
-pub escaped_letter : {s : Text} {o b v : ℕ} → ByteOf s o b → v ≡ letter_of b → v < 256 → Means v 1 ≡ escape s o
-escaped_letter {s} {o} {b} {v} e f h = ap (λ (k : ℕ). Means k 1) f ∙ go (lt-ltb (letter_of b) 256 (omega arith)) ∙ opens e
+pub escaped_letter : {s : Text} {o b v : ℕ} → ByteOf s o b → v ≡ letter_of b → v < 256 → means v 1 ≡ escape s o
+escaped_letter {s} {o} {b} {v} e f h = ap (λ (k : ℕ). means k 1) f ∙ go (lt-ltb (letter_of b) 256 (omega arith)) ∙ opens e
   where
-    go : ltb (letter_of b) 256 ≡ true → Means (letter_of b) 1 ≡ escape_by s o b
+    go : ltb (letter_of b) 256 ≡ true → means (letter_of b) 1 ≡ escape_by s o b
     go t = rw (t, escape_by)
 
 module _ {s : Text} {o b v : ℕ} (e : ByteOf s o b) (f : v ≡ letter_of b) (h : 256 ≤ v) where
   no_letter : ltb (letter_of b) 256 ≡ false
   no_letter = le-ltb (letter_of b) 256 (omega arith)
 
-  pub escaped_hex : {x y d l : ℕ} {r : Escaped} → b ≡ 120 → ByteOf s (o + 1) x → d ≡ digit_of x → ByteOf s (o + 2) y → l ≡ digit_of y → r ≡ hex_by d l → r ≡ escape s o
+  pub escaped_hex : {x y d l : ℕ} {r : Result Escaped BadEscape} → b ≡ 120 → ByteOf s (o + 1) x → d ≡ digit_of x → ByteOf s (o + 2) y → l ≡ digit_of y → r ≡ hex_by d l → r ≡ escape s o
   escaped_hex {l = l} k f u g v z =
       z
       ∙ ap (λ (n : ℕ). hex_by n l) (u ∙ ap digit_of f.is)
@@ -243,16 +244,16 @@ module _ {s : Text} {o b v : ℕ} (e : ByteOf s o b) (f : v ≡ letter_of b) (h 
       go : ltb (letter_of b) 256 ≡ false → eqb b 120 ≡ true → hex_by (digit_of (byte_at s (o + 1))) (digit_of (byte_at s (o + 2))) ≡ escape_by s o b
       go t w = rw (t, w, escape_by)
 
-  pub escaped_brace : {r : Escaped} → b ≡ 117 → r ≡ unicode s (o + 1) → r ≡ escape s o
+  pub escaped_brace : {r : Result Escaped BadEscape} → b ≡ 117 → r ≡ unicode s (o + 1) → r ≡ escape s o
   escaped_brace k z = z ∙ go no_letter (ne_eqb b 120 (λ w. omega arith)) (eq-eqb b 117 k) ∙ opens e
     where
       go : ltb (letter_of b) 256 ≡ false → eqb b 120 ≡ false → eqb b 117 ≡ true → unicode s (o + 1) ≡ escape_by s o b
       go t w x = rw (t, w, x, escape_by)
 
-  pub escaped_not : (b ≡ 120 → ⊥) → (b ≡ 117 → ⊥) → Unknown ≡ escape s o
+  pub escaped_not : (b ≡ 120 → ⊥) → (b ≡ 117 → ⊥) → Err Unknown ≡ escape s o
   escaped_not k l = go no_letter (ne_eqb b 120 k) (ne_eqb b 117 l) ∙ opens e
     where
-      go : ltb (letter_of b) 256 ≡ false → eqb b 120 ≡ false → eqb b 117 ≡ false → Unknown ≡ escape_by s o b
+      go : ltb (letter_of b) 256 ≡ false → eqb b 120 ≡ false → eqb b 117 ≡ false → Err Unknown ≡ escape_by s o b
       go t w x = rw (t, w, x, escape_by)
 
 -- ---- the bytes of an escape stand in the text
@@ -288,13 +289,13 @@ escape_inside s o h =
     y : ℕ
     y = byte_at s (o + 2)
 
-    P : Escaped → Type 0
+    P : Result Escaped BadEscape → Type 0
     P e = o + reach e ≤ length s
 
     one : (k : ℕ) → b ≡ k → k < 256 → o + 1 ≤ length s
     one k e l = let z = in_text s o (omega arith) in omega arith
 
-    pair : o + 1 ≤ length s → (t u v : Bool) → ltb (digit_of y) 16 ≡ u → P (elim (t && u && v) as (λ w. Escaped) [ true ↦ Means (digit_of x * 16 + digit_of y) 3 | false ↦ NotHex ])
+    pair : o + 1 ≤ length s → (t u v : Bool) → ltb (digit_of y) 16 ≡ u → P (elim (t && u && v) as (λ w. Result Escaped BadEscape) [ true ↦ means (digit_of x * 16 + digit_of y) 3 | false ↦ Err NotHex ])
     pair l true true true e = let z = in_text s (o + 2) (let w = digit_ascii y (ltb-true (digit_of y) 16 e) in omega arith) in omega arith
     pair l true true false e = l
     pair l true false v e = l
@@ -312,13 +313,6 @@ escape_inside s o h =
 
 -- ---- one byte of a string, and what follows it
 
--- what an escape may be where it is refused
-abbrev pub Wrong : Escaped → Type 0
-Wrong (Means v n) = ⊥
-Wrong (Short n) = Unit {0}
-Wrong NotHex = Unit {0}
-Wrong Unknown = Unit {0}
-
 module _ (s : Text) (at : Place) (q : ℕ) where
   -- the rest of a string from a place on
   abbrev pub scan_from : Place → Must
@@ -330,7 +324,7 @@ module _ (s : Text) (at : Place) (q : ℕ) where
   scan_over (suc k) [] p = refl
   scan_over (suc k) (b ∷ t) p = scan_over k t p
 
-  pub scan_end : (p : Place) → length s ≤ p.offset → scan_from p ≡ Failed EndOfInput p
+  pub scan_end : (p : Place) → length s ≤ p.offset → scan_from p ≡ failed EndOfInput p
   unfolding scan
   scan_end p h = ap (λ (t : Text). scan s at q 0 t p) (from_end s p.offset h)
 
@@ -338,10 +332,10 @@ module _ (s : Text) (at : Place) (q : ℕ) where
     opened : scan_from p ≡ scan s at q 0 (b ∷ drop (p.offset + 1) s) p
     opened = ap (λ (t : Text). scan s at q 0 t p) (from_byte s p.offset b e h)
 
-    pub scan_quote : b ≡ q → scan_from p ≡ Taken at (past b p)
+    pub scan_quote : b ≡ q → scan_from p ≡ taken at (past b p)
     scan_quote x = opened ∙ go (drop (p.offset + 1) s)
       where
-        go : (t : Text) → scan s at q 0 (b ∷ t) p ≡ Taken at (past b p)
+        go : (t : Text) → scan s at q 0 (b ∷ t) p ≡ taken at (past b p)
         go t = unfold scan in rw (eq-eqb b q x, scan) refl
 
     pub scan_raw : (b ≡ q → ⊥) → (b ≡ 92 → ⊥) → scan_from p ≡ scan_from (past b p)
@@ -350,24 +344,21 @@ module _ (s : Text) (at : Place) (q : ℕ) where
         go : (t : Text) → scan s at q 0 (b ∷ t) p ≡ scan s at q 0 t (past b p)
         go t = unfold scan in rw (ne_eqb b q x, ne_eqb b 92 y, scan) refl
 
-    pub scan_escape : (b ≡ q → ⊥) → b ≡ 92 → (v n : ℕ) → Means v n ≡ escape s (p.offset + 1) → scan_from p ≡ scan_from (on_by (1 + n) p)
-    scan_escape x y v n z =
+    pub scan_escape : (b ≡ q → ⊥) → b ≡ 92 → (g : Escaped) → Ok g ≡ escape s (p.offset + 1) → scan_from p ≡ scan_from (on_by (1 + g.width) p)
+    scan_escape x y g z =
         opened
         ∙ go (drop (p.offset + 1) s)
-        ∙ scan_over n (drop (p.offset + 1) s) (on_by (1 + n) p)
-        ∙ ap (λ (t : Text). scan s at q 0 t (on_by (1 + n) p)) (drop-drop n (p.offset + 1) s ∙ ap (λ (k : ℕ). drop k s) (let w : p.offset + 1 + n ≡ p.offset + (1 + n) = omega arith in w))
+        ∙ scan_over g.width (drop (p.offset + 1) s) (on_by (1 + g.width) p)
+        ∙ ap (λ (t : Text). scan s at q 0 t (on_by (1 + g.width) p)) (drop-drop g.width (p.offset + 1) s ∙ ap (λ (k : ℕ). drop k s) (let w : p.offset + 1 + g.width ≡ p.offset + (1 + g.width) = omega arith in w))
       where
-        go : (t : Text) → scan s at q 0 (b ∷ t) p ≡ scan s at q n t (on_by (1 + n) p)
+        go : (t : Text) → scan s at q 0 (b ∷ t) p ≡ scan s at q g.width t (on_by (1 + g.width) p)
         go t = unfold scan in rw (ne_eqb b q x, eq-eqb b 92 y, ← z, scan) refl
 
-    pub scan_wrong : (b ≡ q → ⊥) → b ≡ 92 → (r : Escaped) → Wrong r → r ≡ escape s (p.offset + 1) → scan_from p ≡ Failed BadStringEscape (strayed s (on_by 1 p) r)
-    scan_wrong x y r w z = opened ∙ go (drop (p.offset + 1) s) r w z
+    pub scan_wrong : (b ≡ q → ⊥) → b ≡ 92 → (g : BadEscape) → Err g ≡ escape s (p.offset + 1) → scan_from p ≡ failed BadStringEscape (strayed s (on_by 1 p) g)
+    scan_wrong x y g z = opened ∙ go (drop (p.offset + 1) s)
       where
-        go : (t : Text) (r : Escaped) → Wrong r → r ≡ escape s (p.offset + 1) → scan s at q 0 (b ∷ t) p ≡ Failed BadStringEscape (strayed s (on_by 1 p) r)
-        go t (Means v n) w z = absurd w
-        go t (Short n) w z = unfold scan in rw (ne_eqb b q x, eq-eqb b 92 y, ← z, scan) refl
-        go t NotHex w z = unfold scan in rw (ne_eqb b q x, eq-eqb b 92 y, ← z, scan) refl
-        go t Unknown w z = unfold scan in rw (ne_eqb b q x, eq-eqb b 92 y, ← z, scan) refl
+        go : (t : Text) → scan s at q 0 (b ∷ t) p ≡ failed BadStringEscape (strayed s (on_by 1 p) g)
+        go t = unfold scan in rw (ne_eqb b q x, eq-eqb b 92 y, ← z, scan) refl
 
 -- ---- characters
 
@@ -399,7 +390,7 @@ next_on {s} {b} {p} h e k z = subst⁻¹ (λ (x : Place). Stands s x) z (next_st
 pub on_stands : (n : ℕ) {s : Text} {p q : Place} → Stands s p → p.offset + n ≤ length s → q ≡ on_by n p → Stands s q
 on_stands n {s} {p} h l z = subst⁻¹ (λ (x : Place). Stands s x) z (on_by_stands s n p h l).stands
 
-module _ (s : Text) (p : Place) {e : Escaped} {r : Place} where
+module _ (s : Text) (p : Place) {e : BadEscape} {r : Place} where
   pub stray_short : {n : ℕ} → e ≡ Short n → r ≡ on_by n p → r ≡ strayed s p e
   stray_short k z = z ∙ ap (strayed s p) (sym k)
 
@@ -416,7 +407,7 @@ pub record Scanning (s : Text) (at : Place) (q : ℕ) (p : Place) : Type 0 where
   pub same : scan_from s at q p ≡ string s at
   pub stands : Stands s p
 
-pub no_quote : {s : Text} {q : ℕ} (at : Place) → ByteOf s at.offset q → q ≡ 256 → Failed EndOfInput at ≡ string s at
+pub no_quote : {s : Text} {q : ℕ} (at : Place) → ByteOf s at.offset q → q ≡ 256 → failed EndOfInput at ≡ string s at
 unfolding string
 no_quote {s} at e h = sym (ap (string_by s at) (from_end s at.offset (ended e h)))
 
@@ -433,11 +424,11 @@ scan_start {s} {at} {p} {q} h e k z =
     }
 
 module _ {s : Text} {at p : Place} {q b : ℕ} (i : Scanning s at q p) (e : ByteOf s p.offset b) where
-  pub scanned_end : b ≡ 256 → Failed EndOfInput p ≡ string s at
+  pub scanned_end : b ≡ 256 → failed EndOfInput p ≡ string s at
   scanned_end h = sym (scan_end s at q p (ended e h)) ∙ i.same
 
-  pub scanned : {r : Place} → (b ≡ 256 → ⊥) → b ≡ q → r ≡ past b p → Taken at r ≡ string s at
-  scanned k x z = ap (Taken at) z ∙ sym (scan_quote s at q p b e.is (not_ended e k) x) ∙ i.same
+  pub scanned : {r : Place} → (b ≡ 256 → ⊥) → b ≡ q → r ≡ past b p → taken at r ≡ string s at
+  scanned k x z = ap (taken at) z ∙ sym (scan_quote s at q p b e.is (not_ended e k) x) ∙ i.same
 
   pub scan_on : {r : Place} → (b ≡ 256 → ⊥) → (b ≡ q → ⊥) → (b ≡ 92 → ⊥) → r ≡ past b p → Scanning s at q r
   scan_on {r} k x y z =
@@ -448,20 +439,20 @@ module _ {s : Text} {at p : Place} {q b : ℕ} (i : Scanning s at q p) (e : Byte
       }
 
   -- the bytes of the escape behind a `\` stand in the text
-  pub escape_room : b ≡ 92 → {o : ℕ} {r : Escaped} → o ≡ p.offset + 1 → r ≡ escape s o → p.offset + 1 + reach r ≤ length s
+  pub escape_room : b ≡ 92 → {o : ℕ} {r : Result Escaped BadEscape} → o ≡ p.offset + 1 → r ≡ escape s o → p.offset + 1 + reach r ≤ length s
   escape_room y {o} {r} f z =
       let l = byte_in e (omega arith) in
       let w = escape_inside s o (omega arith) in
       let u : reach r ≡ reach (escape s o) = ap reach z in
       omega arith
 
-  pub scan_past : {n v : ℕ} {r : Place} → (b ≡ q → ⊥) → b ≡ 92 → Means v n ≡ escape s (p.offset + 1) → r ≡ on_by (1 + n) p → Scanning s at q r
-  scan_past {n} {v} {r} x y f z =
+  pub scan_past : {g : Escaped} {r : Place} → (b ≡ q → ⊥) → b ≡ 92 → Ok g ≡ escape s (p.offset + 1) → r ≡ on_by (1 + g.width) p → Scanning s at q r
+  scan_past {g} {r} x y f z =
       let w = escape_room y refl f in
       record {
-        same = ap (scan_from s at q) z ∙ sym (scan_escape s at q p b e.is (omega arith) x y v n f) ∙ i.same;
-        stands = on_stands (1 + n) i.stands (omega arith) z;
+        same = ap (scan_from s at q) z ∙ sym (scan_escape s at q p b e.is (omega arith) x y g f) ∙ i.same;
+        stands = on_stands (1 + g.width) i.stands (omega arith) z;
       }
 
-  pub scan_refused : {g : Escaped} {r : Place} → (b ≡ q → ⊥) → b ≡ 92 → Wrong g → g ≡ escape s (p.offset + 1) → r ≡ strayed s (on_by 1 p) g → Failed BadStringEscape r ≡ string s at
-  scan_refused {g} x y w f z = ap (Failed BadStringEscape) z ∙ sym (scan_wrong s at q p b e.is (omega arith) x y g w f) ∙ i.same
+  pub scan_refused : {g : BadEscape} {r : Place} → (b ≡ q → ⊥) → b ≡ 92 → Err g ≡ escape s (p.offset + 1) → r ≡ strayed s (on_by 1 p) g → failed BadStringEscape r ≡ string s at
+  scan_refused {g} x y f z = ap (failed BadStringEscape) z ∙ sym (scan_wrong s at q p b e.is (omega arith) x y g f) ∙ i.same

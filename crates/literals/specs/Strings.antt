@@ -1,48 +1,48 @@
 -- Strings: where a literal ends or is refused, and the characters that it spells. Assumes nothing.
-use Rattle.std.specs.Prelude.{Bool, true, false, ◌&&◌, ◌||◌, List, [], ◌∷◌, ℕ, zero, suc, ◌+◌, ◌-◌, ◌*◌, leb, ltb, eqb, drop}
+use Rattle.std.specs.Prelude.{Bool, true, false, ◌&&◌, ◌||◌, List, [], ◌∷◌, ℕ, zero, suc, ◌+◌, ◌-◌, ◌*◌, leb, ltb, eqb, drop, Err, None, Ok, Option, Result}
 use Rattle.characters.specs.declared.place.Place.{Place}
 use Rattle.characters.specs.declared.place.Span.{Span}
 use Rattle.characters.specs.declared.refusal.Refusal.TheVariants.{EndOfInput, BadStringEscape}
-use Rattle.characters.specs.declared.tokens.Must.{Must}
-use Rattle.characters.specs.declared.tokens.Must.TheVariants.{Taken, Failed}
 use Rattle.characters.specs.Text.{Text, byte_at, on_by, past, next}
 use Rattle.characters.specs.Utf8.{char_of, sequence_of}
 use Rattle.characters.specs.Names.{part, same}
 use Rattle.literals.specs.Numbers.{digit_of}
-use Rattle.literals.specs.declared.strings.Spelled.{Spelled}
-use Rattle.literals.specs.declared.strings.Spelled.TheVariants.{End, Char}
+use Rattle.literals.specs.declared.strings.BadEscape.TheVariants.{Short, NotHex, Unknown}
+use Rattle.characters.specs.Answers.{Must, failed, taken}
+use Rattle.literals.specs.Answers.{means, spells_as}
+use Rattle.literals.specs.declared.strings.BadEscape.{BadEscape}
 use Rattle.literals.specs.declared.strings.Escaped.{Escaped}
-use Rattle.literals.specs.declared.strings.Escaped.TheVariants.{Means, Short, NotHex, Unknown}
+use Rattle.literals.specs.declared.strings.Spelled.{Spelled}
 
 -- "`\xHH` to 7F": both digits are there and spell at most 7F
-unfoldable pub hex_by : ℕ → ℕ → Escaped
-hex_by h l = elim (ltb h 16 && ltb l 16 && leb (h * 16 + l) 127) [ true ↦ Means (h * 16 + l) 3 | false ↦ NotHex ]
+unfoldable pub hex_by : ℕ → ℕ → Result Escaped BadEscape
+hex_by h l = elim (ltb h 16 && ltb l 16 && leb (h * 16 + l) 127) [ true ↦ means (h * 16 + l) 3 | false ↦ Err NotHex ]
 
 -- "a Unicode scalar value"
 abbrev pub is_scalar : ℕ → Bool
 is_scalar v = ltb v 55296 || (leb 57344 v && leb v 1114111)
 
 -- n digits that spell v stand between the braces
-abbrev pub named : ℕ → ℕ → Escaped
-named zero v = Short 2
-named (suc n) v = elim (is_scalar v) [ true ↦ Means v (suc n + 3) | false ↦ Short (suc n + 3) ]
+abbrev pub named : ℕ → ℕ → Result Escaped BadEscape
+named zero v = Err (Short 2)
+named (suc n) v = elim (is_scalar v) [ true ↦ means v (suc n + 3) | false ↦ Err (Short (suc n + 3)) ]
 
 -- the byte b stands after n digits that spell v, and is no digit
-unfoldable pub closing : ℕ → ℕ → ℕ → Escaped
-closing b n v = elim (eqb b 125) [ true ↦ named n v | false ↦ Short (n + 2) ]
+unfoldable pub closing : ℕ → ℕ → ℕ → Result Escaped BadEscape
+closing b n v = elim (eqb b 125) [ true ↦ named n v | false ↦ Err (Short (n + 2)) ]
 
 -- "`\u{}` with 1 to 6 hex digits", of which n are read and spell v
-unfoldable pub digits : ℕ → ℕ → Text → Escaped
-digits n v [] = Short (n + 2)
+unfoldable pub digits : ℕ → ℕ → Text → Result Escaped BadEscape
+digits n v [] = Err (Short (n + 2))
 digits n v (b ∷ s) =
     elim (ltb (digit_of b) 16) [
-      | true ↦ elim (ltb n 6) [ true ↦ digits (n + 1) (v * 16 + digit_of b) s | false ↦ Short (n + 2) ]
+      | true ↦ elim (ltb n 6) [ true ↦ digits (n + 1) (v * 16 + digit_of b) s | false ↦ Err (Short (n + 2)) ]
       | false ↦ closing b n v
     ]
 
 -- what follows `\u`
-unfoldable pub unicode : Text → ℕ → Escaped
-unicode s o = elim (eqb (byte_at s o) 123) [ true ↦ digits 0 0 (drop (o + 1) s) | false ↦ Short 1 ]
+unfoldable pub unicode : Text → ℕ → Result Escaped BadEscape
+unicode s o = elim (eqb (byte_at s o) 123) [ true ↦ digits 0 0 (drop (o + 1) s) | false ↦ Err (Short 1) ]
 
 -- the escapes of one letter, `\\ \' \" \t \r \n \0`, with their characters
 abbrev pub letters : List (ℕ × ℕ)
@@ -56,31 +56,30 @@ among (e ∷ es) b = elim (eqb b e.0) [ true ↦ e.1 | false ↦ among es b ]
 unfoldable pub letter_of : ℕ → ℕ
 letter_of b = among letters b
 
-abbrev pub escape_by : Text → ℕ → ℕ → Escaped
+abbrev pub escape_by : Text → ℕ → ℕ → Result Escaped BadEscape
 escape_by s o b =
     elim (ltb (letter_of b) 256) [
-      | true ↦ Means (letter_of b) 1
+      | true ↦ means (letter_of b) 1
       | false ↦
           elim (eqb b 120) [
             | true ↦ hex_by (digit_of (byte_at s (o + 1))) (digit_of (byte_at s (o + 2)))
-            | false ↦ elim (eqb b 117) [ true ↦ unicode s (o + 1) | false ↦ Unknown ]
+            | false ↦ elim (eqb b 117) [ true ↦ unicode s (o + 1) | false ↦ Err Unknown ]
           ]
     ]
 
 -- "escapes `\\ \' \" \t \r \n \0`, `\xHH`, `\u{}`": what follows the `\` before an offset
-unfoldable pub escape : Text → ℕ → Escaped
+unfoldable pub escape : Text → ℕ → Result Escaped BadEscape
 escape s o = escape_by s o (byte_at s o)
 
 -- the bytes that are surely there, where an escape is read
-abbrev pub reach : Escaped → ℕ
-reach (Means v n) = n
-reach (Short n) = n
-reach NotHex = 1
-reach Unknown = 0
+abbrev pub reach : Result Escaped BadEscape → ℕ
+reach (Ok x) = x.width
+reach (Err (Short n)) = n
+reach (Err NotHex) = 1
+reach (Err Unknown) = 0
 
 -- the place that a wrong escape is refused at, the place after its `\` being p: `\x` takes two more characters, whatever they are
-abbrev pub strayed : Text → Place → Escaped → Place
-strayed s p (Means v n) = p
+abbrev pub strayed : Text → Place → BadEscape → Place
 strayed s p (Short n) = on_by n p
 strayed s p NotHex = next s (next s (on_by 1 p))
 strayed s p Unknown = next s p
@@ -88,18 +87,16 @@ strayed s p Unknown = next s p
 -- The rest of the string that began at `at` with the quote q, from the place p on. The bytes of an escape are left out one by one, so that the
 -- text falls: so many of those at the front are read already.
 unfoldable pub scan : Text → Place → ℕ → ℕ → Text → Place → Must
-scan s at q left [] p = Failed EndOfInput p
+scan s at q left [] p = failed EndOfInput p
 scan s at q zero (b ∷ t) p =
     elim (eqb b q) [
-      | true ↦ Taken at (past b p)
+      | true ↦ taken at (past b p)
       | false ↦
           elim (eqb b 92) [
             | true ↦
                 elim (escape s (p.offset + 1)) [
-                  | Means v n ↦ scan s at q n t (on_by (1 + n) p)
-                  | Short n ↦ Failed BadStringEscape (strayed s (on_by 1 p) (Short n))
-                  | NotHex ↦ Failed BadStringEscape (strayed s (on_by 1 p) NotHex)
-                  | Unknown ↦ Failed BadStringEscape (strayed s (on_by 1 p) Unknown)
+                  | Ok x ↦ scan s at q x.width t (on_by (1 + x.width) p)
+                  | Err e ↦ failed BadStringEscape (strayed s (on_by 1 p) e)
                 ]
             | false ↦ scan s at q zero t (past b p)
           ]
@@ -107,7 +104,7 @@ scan s at q zero (b ∷ t) p =
 scan s at q (suc left) (b ∷ t) p = scan s at q left t p
 
 abbrev pub string_by : Text → Place → Text → Must
-string_by s p [] = Failed EndOfInput p
+string_by s p [] = failed EndOfInput p
 string_by s p (q ∷ t) = scan s p q 0 t (past q p)
 
 -- the string whose opening quote stands at a place, up to past its closing quote
@@ -116,17 +113,17 @@ string s p = string_by s p (drop p.offset s)
 
 -- ---- the characters that a string spells: Unicode scalar values
 
-abbrev pub escape_value : Escaped → ℕ
-escape_value (Means v n) = v
-escape_value (Short n) = 92
-escape_value NotHex = 92
-escape_value Unknown = 92
+abbrev pub escape_value : Result Escaped BadEscape → ℕ
+escape_value (Ok x) = x.value
+escape_value (Err e) = 92
 
-abbrev pub escape_width : Escaped → ℕ
-escape_width (Means v n) = n
-escape_width (Short n) = 0
-escape_width NotHex = 0
-escape_width Unknown = 0
+abbrev pub escape_width : Result Escaped BadEscape → ℕ
+escape_width (Ok x) = x.width
+escape_width (Err e) = 0
+
+-- the character of an escape whose `\` ends at an offset, and the offset after it
+abbrev pub spelled_by : Result Escaped BadEscape → ℕ → Spelled
+spelled_by x at = record { value = escape_value x; next = at + escape_width x }
 
 -- the character that begins with the byte b, before the text t: one of ASCII, an escape, or one by RFC 3629. A `\` that opens no escape is itself
 unfoldable pub value_in : ℕ → Text → ℕ
@@ -145,12 +142,12 @@ decode (suc left) (b ∷ t) = decode left t
 abbrev pub decoded : Text → List ℕ
 decoded t = decode 0 t
 
-abbrev pub piece_in : ℕ → Text → Spelled
-piece_in o [] = End
-piece_in o (b ∷ t) = Char (value_in b t) (o + 1 + width_in b t)
+abbrev pub piece_in : ℕ → Text → Option Spelled
+piece_in o [] = None
+piece_in o (b ∷ t) = spells_as (value_in b t) (o + 1 + width_in b t)
 
 -- the character at an offset, and the offset after it
-unfoldable pub piece : Text → ℕ → Spelled
+unfoldable pub piece : Text → ℕ → Option Spelled
 piece s o = piece_in o (drop o s)
 
 -- every escape of a text is one
@@ -159,7 +156,7 @@ sound zero [] = true
 sound (suc left) [] = false
 sound zero (b ∷ t) =
     elim (eqb b 92) [
-      | true ↦ elim (escape t 0) [ Means v n ↦ sound n t | Short n ↦ false | NotHex ↦ false | Unknown ↦ false ]
+      | true ↦ elim (escape t 0) [ Ok x ↦ sound x.width t | Err e ↦ false ]
       | false ↦ sound zero t
     ]
 sound (suc left) (b ∷ t) = sound left t

@@ -5,12 +5,11 @@ ghost use Rattle.literals.specs.ByteArrays.{ascii, between, binary, bit_of, bits
 
 use crate::strings::{hex as digit, letter};
 use characters::blanks::skip;
-use characters::place::{Place, byte};
-use characters::refusal::Refusal;
-use characters::tokens::Must;
+use characters::place::{Place, Token, byte};
+use characters::refusal::{Refusal, Refused};
 
 // What is being read.
-#[derive(Clone, Copy)]
+#[derive(Clone, Copy, Debug, PartialEq, Eq)]
 pub enum Mode {
     // Between runs.
     Between,
@@ -22,101 +21,73 @@ pub enum Mode {
     Binary,
 }
 
-// What the text at a place is: a byte, the opening of a run, the closing `]`, or a refusal.
-#[derive(Clone, Copy)]
+// What the text at a place is: a byte, the opening of a run, or the closing `]`.
+#[derive(Clone, Copy, Debug, PartialEq, Eq)]
 pub enum Seen {
     Byte { value: u32, mode: Mode, next: Place },
     Opened { mode: Mode, next: Place },
     Shut { next: Place },
-    Refused { refusal: Refusal, at: Place },
-}
-
-// 21 at a place.
-fn bad(at: Place) -> Seen
-    ensures { result ≡ Seen.Refused Refusal.BadByteArray at }
-{
-    Seen::Refused {
-        refusal: Refusal::BadByteArray,
-        at,
-    }
 }
 
 // 21 past the character behind the byte at `at`.
-fn stray(text: &[u8], at: Place) -> Seen
+fn stray(text: &[u8], at: Place) -> Result<Seen, Refused>
     requires { (Stands text.now at) × (at.offset < length text.now) }
     ensures { result ≡ unknown text.now at }
 {
-    let p = at.on(1);
-    let q = p.next(text);
-    bad(q)
+    Err(Refused {
+        refusal: Refusal::BadByteArray,
+        at: at.on(1).next(text),
+    })
 }
 
 // The run that the `\` at `at` opens.
-fn opening(text: &[u8], at: Place) -> Seen
+#[tactic(auto, unfolding(crate::specs::ByteArrays::opening))]
+fn opening(text: &[u8], at: Place) -> Result<Seen, Refused>
     requires { (Stands text.now at) × (at.offset < length text.now) }
     ensures { result ≡ opening text.now at }
 {
-    let after = at.offset + 1;
-    let b = byte(text, after);
-    match b {
-        97 => {
-            let next = at.on(2);
-            Seen::Opened {
-                mode: Mode::Ascii,
-                next,
-            }
+    let mode = match byte(text, at.offset + 1) {
+        97 => Mode::Ascii,
+        120 => Mode::Hex,
+        98 => Mode::Binary,
+        _ => {
+            return stray(text, at);
         }
-        120 => {
-            let next = at.on(2);
-            Seen::Opened {
-                mode: Mode::Hex,
-                next,
-            }
-        }
-        98 => {
-            let next = at.on(2);
-            Seen::Opened {
-                mode: Mode::Binary,
-                next,
-            }
-        }
-        _ => stray(text, at),
-    }
+    };
+    Ok(Seen::Opened {
+        mode,
+        next: at.on(2),
+    })
 }
 
 // Past the blanks between runs.
-fn outside(text: &[u8], at: Place) -> Seen
+#[tactic(auto, unfolding(crate::specs::ByteArrays::outside))]
+fn outside(text: &[u8], at: Place) -> Result<Seen, Refused>
     requires { Stands text.now at }
     ensures { result ≡ outside text.now at }
 {
-    let b = byte(text, at.offset);
-    match b {
-        256 => Seen::Refused {
+    match byte(text, at.offset) {
+        256 => Err(Refused {
             refusal: Refusal::EndOfInput,
             at,
-        },
-        93 => {
-            let next = at.on(1);
-            Seen::Shut { next }
-        }
+        }),
+        93 => Ok(Seen::Shut { next: at.on(1) }),
         92 => opening(text, at),
-        _ => {
-            let p = at.next(text);
-            bad(p)
-        }
+        _ => Err(Refused {
+            refusal: Refusal::BadByteArray,
+            at: at.next(text),
+        }),
     }
 }
 
 // Between runs.
-fn between(text: &[u8], at: Place) -> Seen
+#[tactic(auto, using(crate::specs::ByteArrayLaws::blanks_stand), unfolding(crate::specs::ByteArrays::between))]
+fn between(text: &[u8], at: Place) -> Result<Seen, Refused>
     requires { Stands text.now at }
     ensures { result ≡ between text.now at }
 {
-    let m = skip(text, at);
-    match m {
-        Must::Taken { here: _, next } => outside(text, next),
-        Must::Failed { refusal, at: q } => Seen::Refused { refusal, at: q },
-    }
+    let next = skip(text, at)?.next;
+    outside(text, next)
 }
 
 // A byte of a `\a` run that stands for itself.
@@ -124,11 +95,10 @@ fn plain(b: u32, at: Place) -> Seen
     requires { (at.offset + 2 < 2 ^ 32) × (at.column + 2 < 2 ^ 32) }
     ensures { result ≡ plain b at }
 {
-    let next = at.on(1);
     Seen::Byte {
         value: b,
         mode: Mode::Ascii,
-        next,
+        next: at.on(1),
     }
 }
 
@@ -137,76 +107,73 @@ fn coded(v: u32, at: Place) -> Seen
     requires { (at.offset + 2 < 2 ^ 32) × (at.column + 2 < 2 ^ 32) }
     ensures { result ≡ coded v at }
 {
-    let next = at.on(2);
     Seen::Byte {
         value: v,
         mode: Mode::Ascii,
-        next,
+        next: at.on(2),
     }
 }
 
 // The `\` at `at` in a `\a` run: an escape of one letter, or another run opens.
-fn mark(text: &[u8], at: Place) -> Seen
+#[tactic(auto, unfolding(crate::specs::ByteArrays::mark))]
+fn mark(text: &[u8], at: Place) -> Result<Seen, Refused>
     requires { (Stands text.now at) × (at.offset < length text.now) }
     ensures { result ≡ mark text.now at }
 {
-    let after = at.offset + 1;
-    let b = byte(text, after);
+    let b = byte(text, at.offset + 1);
     let v = letter(b);
     if v < 256 {
-        return coded(v, at);
+        return Ok(coded(v, at));
     }
     match b {
-        120 => between(text, at),
-        98 => between(text, at),
+        98 | 120 => between(text, at),
         _ => stray(text, at),
     }
 }
 
 // The `/` at `at` in a `\a` run: a comment closes the run.
-fn slash(text: &[u8], at: Place) -> Seen
+#[tactic(auto, unfolding(crate::specs::ByteArrays::slash))]
+fn slash(text: &[u8], at: Place) -> Result<Seen, Refused>
     requires { Stands text.now at }
     ensures { result ≡ slash text.now at }
 {
-    let after = at.offset + 1;
-    let b = byte(text, after);
-    match b {
-        47 => between(text, at),
-        42 => between(text, at),
-        _ => plain(47, at),
+    match byte(text, at.offset + 1) {
+        42 | 47 => between(text, at),
+        _ => Ok(plain(47, at)),
     }
 }
 
 // The line end at `at` in a `\a` run: it may not follow a space.
-fn line_end(text: &[u8], last: u32, at: Place) -> Seen
+#[tactic(auto, unfolding(crate::specs::ByteArrays::line_end))]
+fn line_end(text: &[u8], last: u32, at: Place) -> Result<Seen, Refused>
     requires { Stands text.now at }
     ensures { result ≡ line_end text.now last at }
 {
     if last == 32 {
-        return bad(at);
+        return Err(Refused {
+            refusal: Refusal::BadByteArray,
+            at,
+        });
     }
     between(text, at)
 }
 
-// The byte b at `at` in a `\a` run, which is no sign there: printable ASCII is content.
-fn printed(text: &[u8], b: u32, at: Place) -> Seen
+// The byte b at `at` in a `\a` run, which is no sign there: printable ASCII is content, and all else closes the run, as `]` does.
+#[tactic(auto, unfolding(crate::specs::ByteArrays::printed))]
+fn printed(text: &[u8], b: u32, at: Place) -> Result<Seen, Refused>
     requires { Stands text.now at }
     ensures { result ≡ printed text.now b at }
 {
-    if b < 32 {
-        return between(text, at);
+    match b {
+        93 => between(text, at),
+        32..=126 => Ok(plain(b, at)),
+        _ => between(text, at),
     }
-    if b == 93 {
-        return between(text, at);
-    }
-    if b < 127 {
-        return plain(b, at);
-    }
-    between(text, at)
 }
 
 // In a `\a` run.
-fn ascii(text: &[u8], last: u32, at: Place) -> Seen
+#[tactic(auto, unfolding(crate::specs::ByteArrays::ascii))]
+fn ascii(text: &[u8], last: u32, at: Place) -> Result<Seen, Refused>
     requires { Stands text.now at }
     ensures { result ≡ ascii text.now last at }
 {
@@ -214,27 +181,26 @@ fn ascii(text: &[u8], last: u32, at: Place) -> Seen
     match b {
         92 => mark(text, at),
         47 => slash(text, at),
-        13 => line_end(text, last, at),
-        10 => line_end(text, last, at),
-        9 => bad(at),
+        10 | 13 => line_end(text, last, at),
+        9 => Err(Refused {
+            refusal: Refusal::BadByteArray,
+            at,
+        }),
         _ => printed(text, b, at),
     }
 }
 
 // Whether a byte is a letter or digit of ASCII.
+#[tactic(auto, unfolding(crate::specs::ByteArrays::is_alphanumeric))]
 fn alphanumeric(b: u32) -> bool
     ensures { result ≡ is_alphanumeric b }
 {
-    match b {
-        48..=57 => true,
-        65..=90 => true,
-        97..=122 => true,
-        _ => false,
-    }
+    matches!(b, 48..=57 | 65..=90 | 97..=122)
 }
 
 // A pair of hex digits at `at`, or what stands there between runs.
-fn pair(text: &[u8], at: Place) -> Seen
+#[tactic(auto, unfolding(crate::specs::ByteArrays::pair))]
+fn pair(text: &[u8], at: Place) -> Result<Seen, Refused>
     requires { Stands text.now at }
     ensures { result ≡ pair text.now at }
 {
@@ -246,33 +212,29 @@ fn pair(text: &[u8], at: Place) -> Seen
     if 16 <= h {
         return stray(text, at);
     }
-    let after = at.offset + 1;
-    let l = digit(byte(text, after));
+    let l = digit(byte(text, at.offset + 1));
     if 16 <= l {
         return stray(text, at);
     }
-    let value = h * 16 + l;
-    let next = at.on(2);
-    Seen::Byte {
-        value,
+    Ok(Seen::Byte {
+        value: h * 16 + l,
         mode: Mode::Hex,
-        next,
-    }
+        next: at.on(2),
+    })
 }
 
 // In a `\x` run.
-fn hex(text: &[u8], at: Place) -> Seen
+#[tactic(auto, using(crate::specs::ByteArrayLaws::blanks_stand), unfolding(crate::specs::ByteArrays::hex))]
+fn hex(text: &[u8], at: Place) -> Result<Seen, Refused>
     requires { Stands text.now at }
     ensures { result ≡ hex text.now at }
 {
-    let m = skip(text, at);
-    match m {
-        Must::Taken { here: _, next } => pair(text, next),
-        Must::Failed { refusal, at: q } => Seen::Refused { refusal, at: q },
-    }
+    let next = skip(text, at)?.next;
+    pair(text, next)
 }
 
 // The value of a bit, or 2.
+#[tactic(auto, unfolding(crate::specs::ByteArrays::bit_of))]
 fn bit(b: u32) -> u32
     ensures { result ≡ bit_of b }
 {
@@ -284,33 +246,34 @@ fn bit(b: u32) -> u32
 }
 
 // Eight bits from `at` on.
-fn bits(text: &[u8], at: Place) -> Seen
+fn bits(text: &[u8], at: Place) -> Result<Seen, Refused>
     requires { Stands text.now at }
     ensures { result ≡ bits 8 0 text.now at }
 {
     let mut p = at;
     let mut v: u32 = 0;
-    let mut left: u32 = 8;
-    while 0 < left {
+    for _ in 0..8u32 {
         let b = byte(text, p.offset);
         let d = bit(b);
         if 2 <= d {
-            let q = p.next(text);
-            return bad(q);
+            return Err(Refused {
+                refusal: Refusal::BadByteArray,
+                at: p.next(text),
+            });
         }
         v = v * 2 + d;
         p = p.on(1);
-        left -= 1;
     }
-    Seen::Byte {
+    Ok(Seen::Byte {
         value: v,
         mode: Mode::Binary,
         next: p,
-    }
+    })
 }
 
 // Eight bits at `at`, or what stands there between runs.
-fn eight(text: &[u8], at: Place) -> Seen
+#[tactic(auto, unfolding(crate::specs::ByteArrays::eight))]
+fn eight(text: &[u8], at: Place) -> Result<Seen, Refused>
     requires { Stands text.now at }
     ensures { result ≡ eight text.now at }
 {
@@ -323,19 +286,18 @@ fn eight(text: &[u8], at: Place) -> Seen
 }
 
 // In a `\b` run.
-fn binary(text: &[u8], at: Place) -> Seen
+#[tactic(auto, using(crate::specs::ByteArrayLaws::blanks_stand), unfolding(crate::specs::ByteArrays::binary))]
+fn binary(text: &[u8], at: Place) -> Result<Seen, Refused>
     requires { Stands text.now at }
     ensures { result ≡ binary text.now at }
 {
-    let m = skip(text, at);
-    match m {
-        Must::Taken { here: _, next } => eight(text, next),
-        Must::Failed { refusal, at: q } => Seen::Refused { refusal, at: q },
-    }
+    let next = skip(text, at)?.next;
+    eight(text, next)
 }
 
 // What the text at `at` is. Seen by step this walks over the bytes: begin past `#[`, between runs, with `last` 256.
-pub fn step(text: &[u8], mode: Mode, last: u32, at: Place) -> Seen
+#[tactic(auto, unfolding(crate::specs::ByteArrays::step))]
+pub fn step(text: &[u8], mode: Mode, last: u32, at: Place) -> Result<Seen, Refused>
     requires { Stands text.now at }
     ensures { result ≡ step text.now mode last at }
 {
@@ -348,7 +310,7 @@ pub fn step(text: &[u8], mode: Mode, last: u32, at: Place) -> Seen
 }
 
 // The bytearray whose `#[` ends at `at`, up to past its `]`.
-pub fn bytearray(text: &[u8], at: Place) -> Must
+pub fn bytearray(text: &[u8], at: Place) -> Result<Token, Refused>
     requires { Stands text.now at }
     ensures { result ≡ bytearray text.now at }
 {
@@ -356,8 +318,7 @@ pub fn bytearray(text: &[u8], at: Place) -> Must
     let mut mode = Mode::Between;
     let mut last: u32 = 256;
     loop {
-        let s = step(text, mode, last, p);
-        match s {
+        match step(text, mode, last, p)? {
             Seen::Byte {
                 value,
                 mode: run,
@@ -372,10 +333,7 @@ pub fn bytearray(text: &[u8], at: Place) -> Must
                 p = next;
             }
             Seen::Shut { next } => {
-                return Must::Taken { here: at, next };
-            }
-            Seen::Refused { refusal, at: q } => {
-                return Must::Failed { refusal, at: q };
+                return Ok(Token { here: at, next });
             }
         }
     }

@@ -17,22 +17,22 @@ ghost use Rattle.literals.specs.Numbers.{
 };
 ghost use Rattle.literals.specs.NumberSums.{Base, Power, fewer_of, held, held_run};
 
+use crate::strings::hex;
 use characters::place::{Place, byte};
-use characters::refusal::Refusal;
+use characters::refusal::{Refusal, Refused};
 
-// A number literal: an integer, the span of a float, or the refusal.
-#[derive(Clone, Copy)]
+// A number literal, with the place after it: an integer, or a float, whose value is worked out from its span.
+#[derive(Clone, Copy, Debug, PartialEq, Eq)]
 pub enum Numeral {
     Int { value: i64, next: Place },
     Float { next: Place },
-    Bad { refusal: Refusal, at: Place },
 }
 
-// A run of digits: its value, held at 2^63 if it is larger, and the place after it; or the refusal.
-#[derive(Clone, Copy)]
-pub enum Run {
-    Digits { value: u64, next: Place },
-    Broken { refusal: Refusal, at: Place },
+// A run of digits: its value, held at 2^63 if it is larger, and the place after it.
+#[derive(Clone, Copy, Debug, PartialEq, Eq)]
+pub struct Digits {
+    pub value: u64,
+    pub next: Place,
 }
 
 // The largest values whose product with 16, 10 and 2 is below 2^63.
@@ -46,28 +46,7 @@ const ROOM_2: u64 = 4611686018427387903;
 fn digit(b: u32) -> u64
     ensures { result ≡ digit_of b }
 {
-    if b < 48 {
-        return 16;
-    }
-    if b < 58 {
-        let d = b - 48;
-        return d as u64;
-    }
-    if b < 65 {
-        return 16;
-    }
-    if b < 71 {
-        let d = b - 55;
-        return d as u64;
-    }
-    if b < 97 {
-        return 16;
-    }
-    if b < 103 {
-        let d = b - 87;
-        return d as u64;
-    }
-    16
+    hex(b) as u64
 }
 
 // `value * radix + d`, held at 2^63.
@@ -87,6 +66,7 @@ fn sum(value: u64, radix: u64, room: u64, d: u64) -> u64
 }
 
 // How many more digits stay below 2^127 after the digit `d`, where `left` did before it.
+#[tactic(auto, unfolding(crate::specs::NumberSums::fewer_of))]
 fn fewer(value: u64, left: u32, radix: u64, d: u64) -> u32
     requires { 0 < left }
     ensures { result ≡ fewer_of value left radix d }
@@ -107,7 +87,7 @@ fn fewer(value: u64, left: u32, radix: u64, d: u64) -> u32
 }
 
 // The digits of `0x` and `0b`. No sum of 128 bits: `left` says how many more digits stay below 2^127.
-fn limited(text: &[u8], at: Place, radix: u64, room: u64) -> Run
+fn limited(text: &[u8], at: Place, radix: u64, room: u64) -> Result<Digits, Refused>
     requires { Stands text.now at × Base radix room × Power radix }
     ensures { result ≡ held_run (run true radix 0 (drop at.offset text.now) at) }
 {
@@ -119,10 +99,10 @@ fn limited(text: &[u8], at: Place, radix: u64, room: u64) -> Run
         let d = digit(b);
         if d < radix {
             if left == 0 {
-                return Run::Broken {
+                return Err(Refused {
                     refusal: Refusal::IntegerTooLarge,
                     at: p,
-                };
+                });
             }
             left = fewer(value, left, radix, d);
             value = sum(value, radix, room, d);
@@ -132,27 +112,27 @@ fn limited(text: &[u8], at: Place, radix: u64, room: u64) -> Run
             let c = byte(text, q.offset);
             let e = digit(c);
             if radix <= e {
-                return Run::Broken {
+                return Err(Refused {
                     refusal: Refusal::MisplacedSeparator,
                     at: p,
-                };
+                });
             }
             p = q;
         } else {
-            return Run::Digits { value, next: p };
+            return Ok(Digits { value, next: p });
         }
     }
 }
 
 // Decimal digits; `none` is the refusal where the first of them is missing.
-fn decimals(text: &[u8], at: Place, none: Refusal) -> Run
+fn decimals(text: &[u8], at: Place, none: Refusal) -> Result<Digits, Refused>
     requires { Stands text.now at }
     ensures { result ≡ held_run (digits false none 10 text.now at) }
 {
     let first = byte(text, at.offset);
     let f = digit(first);
     if 10 <= f {
-        return Run::Broken { refusal: none, at };
+        return Err(Refused { refusal: none, at });
     }
     let mut p = at;
     let mut value: u64 = 0;
@@ -167,33 +147,34 @@ fn decimals(text: &[u8], at: Place, none: Refusal) -> Run
             let c = byte(text, q.offset);
             let e = digit(c);
             if 10 <= e {
-                return Run::Broken {
+                return Err(Refused {
                     refusal: Refusal::MisplacedSeparator,
                     at: p,
-                };
+                });
             }
             p = q;
         } else {
-            return Run::Digits { value, next: p };
+            return Ok(Digits { value, next: p });
         }
     }
 }
 
 // An integer literal of this value.
-fn integer(value: u64, next: Place) -> Numeral
+#[tactic(auto, unfolding(crate::specs::Numbers::whole))]
+fn integer(value: u64, next: Place) -> Result<Numeral, Refused>
     ensures { result ≡ whole value next }
 {
     if value < 9223372036854775808 {
         let signed = value as i64;
-        return Numeral::Int {
+        return Ok(Numeral::Int {
             value: signed,
             next,
-        };
+        });
     }
-    Numeral::Bad {
+    Err(Refused {
         refusal: Refusal::OutsideInt64,
         at: next,
-    }
+    })
 }
 
 // Past a sign, if there is one.
@@ -201,73 +182,57 @@ fn signed(text: &[u8], at: Place) -> Place
     requires { Stands text.now at }
     ensures { result ≡ signed text.now at }
 {
-    let b = byte(text, at.offset);
-    if b == 43 {
-        return at.on(1);
+    match byte(text, at.offset) {
+        43 | 45 => at.on(1),
+        _ => at,
     }
-    if b == 45 {
-        return at.on(1);
-    }
-    at
 }
 
 // An exponent, from the place after its `e`.
-fn exponent(text: &[u8], at: Place) -> Numeral
+fn exponent(text: &[u8], at: Place) -> Result<Numeral, Refused>
     requires { Stands text.now at }
     ensures { result ≡ exponent text.now at }
 {
     let p = signed(text, at);
-    let run = decimals(text, p, Refusal::NoExponentDigits);
-    match run {
-        Run::Digits { value: _, next } => Numeral::Float { next },
-        Run::Broken { refusal, at } => Numeral::Bad { refusal, at },
-    }
+    let read = decimals(text, p, Refusal::NoExponentDigits)?;
+    Ok(Numeral::Float { next: read.next })
 }
 
 // The exponent at a place, or `plain` where there is none.
-fn exponent_or(text: &[u8], at: Place, plain: Numeral) -> Numeral
+#[tactic(auto, unfolding(crate::specs::Numbers::exponent_or))]
+fn exponent_or(text: &[u8], at: Place, plain: Result<Numeral, Refused>) -> Result<Numeral, Refused>
     requires { Stands text.now at }
     ensures { result ≡ exponent_or text.now at plain }
 {
-    let b = byte(text, at.offset);
-    if b == 101 {
-        let p = at.on(1);
-        return exponent(text, p);
+    match byte(text, at.offset) {
+        69 | 101 => exponent(text, at.on(1)),
+        _ => plain,
     }
-    if b == 69 {
-        let p = at.on(1);
-        return exponent(text, p);
-    }
-    plain
 }
 
 // A fraction, from the place after its dot.
-fn fraction(text: &[u8], at: Place) -> Numeral
+fn fraction(text: &[u8], at: Place) -> Result<Numeral, Refused>
     requires { Stands text.now at }
     ensures { result ≡ fraction text.now at }
 {
-    let run = decimals(text, at, Refusal::ExpectedDigit);
-    match run {
-        Run::Digits { value: _, next } => {
-            let plain = Numeral::Float { next };
-            exponent_or(text, next, plain)
-        }
-        Run::Broken { refusal, at } => Numeral::Bad { refusal, at },
-    }
+    let read = decimals(text, at, Refusal::ExpectedDigit)?;
+    let plain = Numeral::Float { next: read.next };
+    exponent_or(text, read.next, Ok(plain))
 }
 
 // What stands at a dot behind digits of this value.
-fn dotted(text: &[u8], value: u64, at: Place) -> Numeral
+#[tactic(auto, unfolding(crate::specs::Numbers::dotted))]
+fn dotted(text: &[u8], value: u64, at: Place) -> Result<Numeral, Refused>
     requires { Stands text.now at × (at.offset < length text.now) }
     ensures { result ≡ dotted text.now value at }
 {
     let p = at.on(1);
     let b = byte(text, p.offset);
     if b == 95 {
-        return Numeral::Bad {
+        return Err(Refused {
             refusal: Refusal::MisplacedSeparator,
             at,
-        };
+        });
     }
     let d = digit(b);
     if d < 10 {
@@ -277,46 +242,39 @@ fn dotted(text: &[u8], value: u64, at: Place) -> Numeral
 }
 
 // A decimal literal.
-fn decimal(text: &[u8], at: Place) -> Numeral
+fn decimal(text: &[u8], at: Place) -> Result<Numeral, Refused>
     requires { Stands text.now at }
     ensures { result ≡ decimal text.now at }
 {
-    let run = decimals(text, at, Refusal::ExpectedDigit);
-    match run {
-        Run::Digits { value, next } => {
-            let b = byte(text, next.offset);
-            if b == 46 {
-                return dotted(text, value, next);
-            }
-            let plain = integer(value, next);
-            exponent_or(text, next, plain)
-        }
-        Run::Broken { refusal, at } => Numeral::Bad { refusal, at },
+    let read = decimals(text, at, Refusal::ExpectedDigit)?;
+    let b = byte(text, read.next.offset);
+    if b == 46 {
+        return dotted(text, read.value, read.next);
     }
+    let plain = integer(read.value, read.next);
+    exponent_or(text, read.next, plain)
 }
 
 // A literal of `0x` or `0b`, from the place after it.
-fn based(text: &[u8], at: Place, radix: u64, room: u64) -> Numeral
+fn based(text: &[u8], at: Place, radix: u64, room: u64) -> Result<Numeral, Refused>
     requires { Stands text.now at × Base radix room × Power radix }
     ensures { result ≡ based radix text.now at }
 {
     let first = byte(text, at.offset);
     let f = digit(first);
     if radix <= f {
-        return Numeral::Bad {
+        return Err(Refused {
             refusal: Refusal::ExpectedDigit,
             at,
-        };
+        });
     }
-    let run = limited(text, at, radix, room);
-    match run {
-        Run::Digits { value, next } => integer(value, next),
-        Run::Broken { refusal, at } => Numeral::Bad { refusal, at },
-    }
+    let read = limited(text, at, radix, room)?;
+    integer(read.value, read.next)
 }
 
 // The number literal at a place; 16 where no digit stands there.
-pub fn number(text: &[u8], at: Place) -> Numeral
+#[tactic(auto, unfolding(crate::specs::Numbers::number))]
+pub fn number(text: &[u8], at: Place) -> Result<Numeral, Refused>
     requires { Stands text.now at }
     ensures { result ≡ number text.now at }
 {
@@ -324,15 +282,9 @@ pub fn number(text: &[u8], at: Place) -> Numeral
     if b != 48 {
         return decimal(text, at);
     }
-    let o = at.offset + 1;
-    let x = byte(text, o);
-    if x == 120 {
-        let p = at.on(2);
-        return based(text, p, 16, ROOM_16);
+    match byte(text, at.offset + 1) {
+        120 => based(text, at.on(2), 16, ROOM_16),
+        98 => based(text, at.on(2), 2, ROOM_2),
+        _ => decimal(text, at),
     }
-    if x == 98 {
-        let p = at.on(2);
-        return based(text, p, 2, ROOM_2);
-    }
-    decimal(text, at)
 }

@@ -13,10 +13,7 @@ use characters::place::byte;
 fn is_digit(b: u8) -> bool
     ensures { result ≡ is_digit b }
 {
-    if b < 48 {
-        return false;
-    }
-    b <= 57
+    matches!(b, 48..=57)
 }
 
 // Where the decimal digits from `from` on end.
@@ -25,24 +22,19 @@ pub fn digits_end(text: &[u8], from: u32) -> u32
     ensures { result ≡ end_of is_digit text.now from }
 {
     let n = text.len();
-    let mut i = from as usize;
-    while i < n {
+    for i in from as usize..n {
         if !is_digit(text[i]) {
             return i as u32;
         }
-        i += 1;
     }
-    i as u32
+    n as u32
 }
 
 // May a number go on with this byte?
 fn goes_on(b: u32) -> bool
     ensures { result ≡ goes_on b }
 {
-    if is_name_byte(b) {
-        return true;
-    }
-    b == 46
+    is_name_byte(b) || b == 46
 }
 
 // Where the plain integer at `from` ends, or 0: at most eighteen digits, which no number goes on behind. Its digits end at `end`.
@@ -92,14 +84,10 @@ pub fn plain_int(text: &[u8], from: u32, to: u32) -> u64
     requires { Few text.now from to }
     ensures { IntOf text.now from to result }
 {
-    let end = to as usize;
     let mut value: u64 = 0;
-    let mut i = from as usize;
-    while i < end {
-        let b = text[i];
-        let digit = b - 48;
-        value = value * 10 + (digit as u64);
-        i += 1;
+    for i in from as usize..to as usize {
+        let digit = text[i] - 48;
+        value = value * 10 + digit as u64;
     }
     value
 }
@@ -139,13 +127,7 @@ fn small_end(text: &[u8], from: usize) -> usize
 fn is_itself(b: u8) -> bool
     ensures { result ≡ is_itself b }
 {
-    if b < 32 {
-        return false;
-    }
-    if 126 < b {
-        return false;
-    }
-    b != 92
+    matches!(b, 32..=91 | 93..=126)
 }
 
 // Past the closing quote of the plain string that opens at `from`, or 0. Mostly small letters stand in it.

@@ -2,28 +2,33 @@
 ghost use Rattle.std.specs.Prelude.{◌≡◌, ◌+◌, ◌-◌, ◌<◌, ◌≤◌, ◌^◌, length};
 ghost use Rattle.characters.specs.Text.{Stands, next};
 ghost use Rattle.characters.specs.Names.{part, same};
-ghost use Rattle.literals.specs.declared.strings.Spelled.TheVariants.{Char};
 ghost use Rattle.literals.specs.Numbers.{digit_of};
-ghost use Rattle.literals.specs.Strings.{closing, decoded, escape, escape_value, escape_width, hex_by, key_of, letter_of, piece, reach, same_key, strayed, string, unicode};
+ghost use Rattle.literals.specs.Strings.{closing, decoded, escape, hex_by, key_of, letter_of, piece, reach, same_key, spelled_by, strayed, string, unicode};
 
-use characters::place::{Place, Span, byte};
-use characters::refusal::Refusal;
-use characters::tokens::Must;
+use characters::place::{Place, Span, Token, byte};
+use characters::refusal::{Refusal, Refused};
 use characters::utf8::{char_at, sequence};
 
-// What follows a `\`: a character and the bytes that spell it, or how far it is read before it is refused.
-#[derive(Clone, Copy)]
-pub enum Escaped {
-    Means { value: u32, width: u32 },
-    // After so many bytes.
+// What an escape means: a character, and how many bytes behind the `\` spell it.
+#[derive(Clone, Copy, Debug, PartialEq, Eq)]
+pub struct Escaped {
+    pub value: u32,
+    pub width: u32,
+}
+
+// How far what is no escape is read before it is refused.
+#[derive(Clone, Copy, Debug, PartialEq, Eq)]
+pub enum BadEscape {
+    // So many bytes.
     Short { width: u32 },
-    // After the `x` and two characters more.
+    // The `x` and two characters more.
     NotHex,
-    // After the character.
+    // The character.
     Unknown,
 }
 
 // The value of a hex digit, or 16.
+#[tactic(auto, unfolding(crate::specs::Numbers::digit_of))]
 pub fn hex(b: u32) -> u32
     ensures { result ≡ digit_of b }
 {
@@ -36,47 +41,47 @@ pub fn hex(b: u32) -> u32
 }
 
 // The escape `\x` with the digits h and l.
-fn hex_pair(h: u32, l: u32) -> Escaped
+#[tactic(auto, unfolding(crate::specs::Strings::hex_by))]
+fn hex_pair(h: u32, l: u32) -> Result<Escaped, BadEscape>
     ensures { result ≡ hex_by h l }
 {
     if 8 <= h {
-        return Escaped::NotHex;
+        return Err(BadEscape::NotHex);
     }
     if 16 <= l {
-        return Escaped::NotHex;
+        return Err(BadEscape::NotHex);
     }
     let value = h * 16 + l;
-    Escaped::Means { value, width: 3 }
+    Ok(Escaped { value, width: 3 })
 }
 
 // What stands after n digits that spell v.
-fn close(b: u32, n: u32, v: u32) -> Escaped
+#[tactic(auto, unfolding(crate::specs::Strings::closing))]
+fn close(b: u32, n: u32, v: u32) -> Result<Escaped, BadEscape>
     requires { n < 16 }
     ensures { result ≡ closing b n v }
 {
     if b != 125 {
-        let width = n + 2;
-        return Escaped::Short { width };
+        return Err(BadEscape::Short { width: n + 2 });
     }
     if n == 0 {
-        return Escaped::Short { width: 2 };
+        return Err(BadEscape::Short { width: 2 });
     }
     let width = n + 3;
     match v {
-        0..=55295 => Escaped::Means { value: v, width },
-        57344..=1114111 => Escaped::Means { value: v, width },
-        _ => Escaped::Short { width },
+        0..=55295 | 57344..=1114111 => Ok(Escaped { value: v, width }),
+        _ => Err(BadEscape::Short { width }),
     }
 }
 
 // What follows `\u`, from `at` on.
-fn braced(text: &[u8], at: u32) -> Escaped
+fn braced(text: &[u8], at: u32) -> Result<Escaped, BadEscape>
     requires { (length text.now < 2 ^ 31) × (at ≤ length text.now) }
     ensures { result ≡ unicode text.now at }
 {
     let open = byte(text, at);
     if open != 123 {
-        return Escaped::Short { width: 1 };
+        return Err(BadEscape::Short { width: 1 });
     }
     let mut o = at + 1;
     let mut n: u32 = 0;
@@ -88,7 +93,7 @@ fn braced(text: &[u8], at: u32) -> Escaped
             return close(b, n, v);
         }
         if n == 6 {
-            return Escaped::Short { width: 8 };
+            return Err(BadEscape::Short { width: 8 });
         }
         v = v * 16 + d;
         n += 1;
@@ -97,6 +102,7 @@ fn braced(text: &[u8], at: u32) -> Escaped
 }
 
 // The character of an escape of one letter, or 256.
+#[tactic(auto, unfolding(crate::specs::Strings::letter_of, crate::specs::Strings::among))]
 pub fn letter(b: u32) -> u32
     ensures { result ≡ letter_of b }
 {
@@ -113,28 +119,24 @@ pub fn letter(b: u32) -> u32
 }
 
 // What follows the `\` before `at`.
-pub fn escape(text: &[u8], at: u32) -> Escaped
+#[tactic(auto, unfolding(crate::specs::Strings::escape))]
+pub fn escape(text: &[u8], at: u32) -> Result<Escaped, BadEscape>
     requires { (length text.now < 2 ^ 31) × (at ≤ length text.now) }
     ensures { result ≡ escape text.now at }
 {
     let b = byte(text, at);
-    let v = letter(b);
-    if v < 256 {
-        return Escaped::Means { value: v, width: 1 };
+    let value = letter(b);
+    if value < 256 {
+        return Ok(Escaped { value, width: 1 });
     }
     match b {
         120 => {
-            let first = at + 1;
-            let second = at + 2;
-            let h = hex(byte(text, first));
-            let l = hex(byte(text, second));
+            let h = hex(byte(text, at + 1));
+            let l = hex(byte(text, at + 2));
             hex_pair(h, l)
         }
-        117 => {
-            let after = at + 1;
-            braced(text, after)
-        }
-        _ => Escaped::Unknown,
+        117 => braced(text, at + 1),
+        _ => Err(BadEscape::Unknown),
     }
 }
 
@@ -158,59 +160,54 @@ pub fn two_on(text: &[u8], at: Place) -> Place
 }
 
 // Where a wrong escape is refused, whose `\` ends at `at`.
-fn stray(text: &[u8], at: Place, e: Escaped) -> Place
-    requires { (Stands text.now at) × (at.offset + reach e ≤ length text.now) }
+fn stray(text: &[u8], at: Place, e: BadEscape) -> Place
+    requires { (Stands text.now at) × (at.offset + reach (Err e) ≤ length text.now) }
     ensures { result ≡ strayed text.now at e }
 {
     match e {
-        Escaped::Means { value: _, width: _ } => at,
-        Escaped::Short { width } => at.on(width),
-        Escaped::NotHex => {
-            let p = at.on(1);
-            two_on(text, p)
-        }
-        Escaped::Unknown => at.next(text),
+        BadEscape::Short { width } => at.on(width),
+        BadEscape::NotHex => two_on(text, at.on(1)),
+        BadEscape::Unknown => at.next(text),
     }
 }
 
-// A refusal at a place.
-fn failed(refusal: Refusal, at: Place) -> Must
-    ensures { result ≡ Must.Failed refusal at }
-{
-    Must::Failed { refusal, at }
-}
-
 // The string whose opening quote stands at `at`, up to past its closing quote.
-pub fn string(text: &[u8], at: Place) -> Must
+pub fn string(text: &[u8], at: Place) -> Result<Token, Refused>
     requires { Stands text.now at }
     ensures { result ≡ string text.now at }
 {
     let quote = byte(text, at.offset);
     if quote == 256 {
-        return failed(Refusal::EndOfInput, at);
+        return Err(Refused {
+            refusal: Refusal::EndOfInput,
+            at,
+        });
     }
     let mut p = at.past(quote);
     loop {
         let b = byte(text, p.offset);
         if b == 256 {
-            return failed(Refusal::EndOfInput, p);
+            return Err(Refused {
+                refusal: Refusal::EndOfInput,
+                at: p,
+            });
         }
         if b == quote {
-            let next = p.past(b);
-            return Must::Taken { here: at, next };
+            return Ok(Token {
+                here: at,
+                next: p.past(b),
+            });
         }
         if b == 92 {
-            let after = p.offset + 1;
-            let e = escape(text, after);
-            match e {
-                Escaped::Means { value: _, width } => {
-                    let n = 1 + width;
-                    p = p.on(n);
+            match escape(text, p.offset + 1) {
+                Ok(escaped) => {
+                    p = p.on(1 + escaped.width);
                 }
-                _ => {
-                    let behind = p.on(1);
-                    let wrong = stray(text, behind, e);
-                    return failed(Refusal::BadStringEscape, wrong);
+                Err(e) => {
+                    return Err(Refused {
+                        refusal: Refusal::BadStringEscape,
+                        at: stray(text, p.on(1), e),
+                    });
                 }
             }
         } else {
@@ -219,64 +216,54 @@ pub fn string(text: &[u8], at: Place) -> Must
     }
 }
 
-// The next character of what a string spells, and the offset after it; or its end.
-#[derive(Clone, Copy)]
-pub enum Spelled {
-    End,
-    Char { value: u32, next: u32 },
-}
-
-// A `\` that ends at `at` and opens no escape.
-fn itself(at: u32) -> Spelled
-    ensures { result ≡ Char 92 at }
-{
-    Spelled::Char {
-        value: 92,
-        next: at,
-    }
+// A character that a string spells, and the offset after it.
+#[derive(Clone, Copy, Debug, PartialEq, Eq)]
+pub struct Spelled {
+    pub value: u32,
+    pub next: u32,
 }
 
 // The character of an escape whose `\` ends at `at`; where it is none, the `\` itself.
-fn after_escape(e: Escaped, at: u32) -> Spelled
+fn after_escape(e: Result<Escaped, BadEscape>, at: u32) -> Spelled
     requires { at + reach e < 2 ^ 31 }
-    ensures { result ≡ Char (escape_value e) (at + escape_width e) }
+    ensures { result ≡ spelled_by e at }
 {
     match e {
-        Escaped::Means { value, width } => {
-            let next = at + width;
-            Spelled::Char { value, next }
-        }
-        Escaped::Short { width: _ } => itself(at),
-        Escaped::NotHex => itself(at),
-        Escaped::Unknown => itself(at),
+        Ok(escaped) => Spelled {
+            value: escaped.value,
+            next: at + escaped.width,
+        },
+        Err(_) => Spelled {
+            value: 92,
+            next: at,
+        },
     }
 }
 
-// The character at `at`, in the bytes between the quotes.
-pub fn piece(text: &[u8], at: u32) -> Spelled
+// The character at `at`, in the bytes between the quotes; none at their end.
+pub fn piece(text: &[u8], at: u32) -> Option<Spelled>
     requires { (length text.now < 2 ^ 31) × (at ≤ length text.now) }
     ensures { result ≡ piece text.now at }
 {
     let b = byte(text, at);
     if b == 256 {
-        return Spelled::End;
+        return None;
     }
     let next = at + 1;
     if b == 92 {
-        let e = escape(text, next);
-        return after_escape(e, next);
+        return Some(after_escape(escape(text, next), next));
     }
     if b < 128 {
-        return Spelled::Char { value: b, next };
+        return Some(Spelled { value: b, next });
     }
     let i = at as usize;
     let value = char_at(text, i);
     let width = sequence(text, i) as u32;
     if width == 0 {
-        return Spelled::Char { value, next };
+        return Some(Spelled { value, next });
     }
     let next = at + width;
-    Spelled::Char { value, next }
+    Some(Spelled { value, next })
 }
 
 // Whether what stands between two pairs of quotes spells the same characters.
@@ -287,29 +274,20 @@ pub fn same(a: &[u8], b: &[u8]) -> bool
     let mut i: u32 = 0;
     let mut j: u32 = 0;
     loop {
-        let x = piece(a, i);
-        let y = piece(b, j);
-        match x {
-            Spelled::End => match y {
-                Spelled::End => {
-                    return true;
-                }
-                Spelled::Char { value: _, next: _ } => {
+        match (piece(a, i), piece(b, j)) {
+            (None, None) => {
+                return true;
+            }
+            (Some(x), Some(y)) => {
+                if x.value != y.value {
                     return false;
                 }
-            },
-            Spelled::Char { value, next } => match y {
-                Spelled::End => {
-                    return false;
-                }
-                Spelled::Char { value: w, next: m } => {
-                    if value != w {
-                        return false;
-                    }
-                    i = next;
-                    j = m;
-                }
-            },
+                i = x.next;
+                j = y.next;
+            }
+            _ => {
+                return false;
+            }
         }
     }
 }
@@ -347,21 +325,19 @@ fn unquoted(text: &[u8], from: u32, to: u32) -> &[u8]
 }
 
 // What a key spells: a string without its quotes, or a name.
+#[tactic(auto, unfolding(crate::specs::Strings::key_of))]
 pub fn key(text: &[u8], span: Span) -> &[u8]
     requires { length text.now < 2 ^ 31 }
     ensures { result.now ≡ key_of text.now span.from span.to }
 {
-    let from = span.from;
-    let to = span.to;
-    let b = byte(text, from);
-    match b {
-        34 => unquoted(text, from, to),
-        39 => unquoted(text, from, to),
-        _ => part(text, from, to),
+    match byte(text, span.from) {
+        34 | 39 => unquoted(text, span.from, span.to),
+        _ => part(text, span.from, span.to),
     }
 }
 
 // Whether two keys are the same: "values compare by decoded characters".
+#[tactic(auto, unfolding(crate::specs::Strings::same_key))]
 pub fn same_key(text: &[u8], a: Span, b: Span) -> bool
     requires { length text.now < 2 ^ 31 }
     ensures { result ≡ same_key text.now a b }

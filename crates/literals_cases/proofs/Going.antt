@@ -1,24 +1,26 @@
 -- What the program shows on the way: the place after a token stands in the text, what stands between quotes is short, and an integer is a
 -- natural number. Assumes nothing.
-use Rattle.std.proofs.Common.{◌≡◌, sym, subst, ◌∙◌, ℕ, ◌≤◌, ◌<◌, ◌^◌, arith, T, ℤ, pos, negsuc, nat_abs, length}
+use Rattle.std.specs.Prelude.{Ok}
+use Rattle.std.proofs.Common.{◌≡◌, ap, sym, subst, ◌∙◌, ℕ, ◌≤◌, ◌<◌, ◌^◌, arith, T, ℤ, pos, negsuc, nat_abs, length}
 use mathlib.Core.Path.{subst⁻¹}
 use lib.Signed.{non_neg}
 use mir.Syntax.{w64}
 use mir.Val.{Fits, SFits, to_z, of_z}
 use mir.ValLaws.{to_z-of_z}
 use Rattle.characters.specs.declared.place.Place.{Place}
-use Rattle.characters.specs.declared.tokens.Look.{Look}
-use Rattle.characters.specs.declared.tokens.Look.TheVariants.{Found}
 use Rattle.characters.specs.Text.{Text, Stands}
 use Rattle.characters.specs.Tokens.{token}
 use Rattle.characters.specs.TokenLaws.{TokenOn, token_on}
 use Rattle.literals.specs.NumberLaws.{Small}
 use Rattle.literals.specs.Strings.{key_of}
 use Rattle.literals.specs.SpellingLaws.{key_length}
+use Rattle.characters.specs.Answers.{found}
+use Rattle.characters.specs.declared.tokens.Look.{Look}
+use Rattle.characters.specs.declared.tokens.Look.TheVariants.{Found}
 
 -- the place after a token
-pub past_token : {s : Text} {p h n : Place} {r : Look} (w : Text) → Stands s p → r ≡ token s p w → r ≡ Found h n → Stands s n
-past_token {s} {p} {h} {n} {r} w k e f = let a : TokenOn s p w (Found h n) = subst (TokenOn s p w) (sym e ∙ f) (token_on s p w k) in a.1.stands
+pub past_token : {s : Text} {p h n : Place} {x : Look} (w : Text) → Stands s p → Ok x ≡ token s p w → x ≡ Found h n → Stands s n
+past_token {s} {p} {h} {n} w k e f = let a : TokenOn s p w (found h n) = subst (TokenOn s p w) (sym e ∙ ap Ok f) (token_on s p w k) in a.1.stands
 
 -- what stands between quotes is no longer than the text
 pub key_short : (s : Text) (f t : ℕ) {x : Text} → x ≡ key_of s f t → length s < 2 ^ 31 → length x < 2 ^ 31

@@ -9,10 +9,9 @@ ghost use Rattle.characters.specs.Text.{Stands};
 use cases::{Case, say};
 use characters::place::{Place, Span, byte};
 use characters::tokens;
-use characters::tokens::{Look, Must};
+use characters::tokens::Look;
 use literals::bytearrays::{Mode, Seen};
 use literals::numbers::Numeral;
-use literals::strings::Spelled;
 use literals::{bytearrays, numbers, strings};
 
 // A list that fills the buffer may have been cut, so it is not replayed.
@@ -58,9 +57,8 @@ fn replay(list: &[u8])
 fn answer(text: &[u8])
     requires { length text.now < 2 ^ 31 }
 {
-    let look = tokens::token(text, cases::start_of(text), b"x = ");
-    match look {
-        Look::Found { here: _, next } => {
+    match tokens::token(text, cases::start_of(text), b"x = ") {
+        Ok(Look::Found { here: _, next }) => {
             say_literal(text, past_signs(text, next));
         }
         _ => {
@@ -89,27 +87,15 @@ fn past_signs(text: &[u8], at: Place) -> Place
 fn is_sign(b: u32) -> bool
     ensures { result ≡ true → b < 256 }
 {
-    match b {
-        32 => true,
-        33 => true,
-        40 => true,
-        43 => true,
-        45 => true,
-        123 => true,
-        _ => false,
-    }
+    matches!(b, 32 | 33 | 40 | 43 | 45 | 123)
 }
 
 // What stands there: a quote opens a string, `#` a bytearray, and all else is read as a number.
 fn say_literal(text: &[u8], at: Place)
     requires { Stands text.now at }
 {
-    let b = byte(text, at.offset);
-    match b {
-        34 => {
-            say_string(text, at);
-        }
-        39 => {
+    match byte(text, at.offset) {
+        34 | 39 => {
             say_string(text, at);
         }
         35 => {
@@ -124,23 +110,22 @@ fn say_literal(text: &[u8], at: Place)
 fn say_number(text: &[u8], at: Place)
     requires { Stands text.now at }
 {
-    let n = numbers::number(text, at);
-    match n {
-        Numeral::Int { value, next } => {
+    match numbers::number(text, at) {
+        Ok(Numeral::Int { value, next }) => {
             let v = value as u64;
             head(b"int ", at);
             io::print_decimal(1, v);
             say::bytes(b" ");
             say::place(next);
         }
-        Numeral::Float { next } => {
+        Ok(Numeral::Float { next }) => {
             head(b"float ", at);
             say::bytes(strings::part(text, at.offset, next.offset));
             say::bytes(b" ");
             say::place(next);
         }
-        Numeral::Bad { refusal, at: q } => {
-            say::refused(refusal, q);
+        Err(e) => {
+            say::refused(e);
         }
     }
 }
@@ -148,19 +133,18 @@ fn say_number(text: &[u8], at: Place)
 fn say_string(text: &[u8], at: Place)
     requires { Stands text.now at }
 {
-    let m = strings::string(text, at);
-    match m {
-        Must::Taken { here, next } => {
+    match strings::string(text, at) {
+        Ok(token) => {
             head(b"string ", at);
             let span = Span {
-                from: here.offset,
-                to: next.offset,
+                from: token.here.offset,
+                to: token.next.offset,
             };
             spell(strings::key(text, span));
-            say::place(next);
+            say::place(token.next);
         }
-        Must::Failed { refusal, at: q } => {
-            say::refused(refusal, q);
+        Err(e) => {
+            say::refused(e);
         }
     }
 }
@@ -170,26 +154,17 @@ fn spell(inner: &[u8])
     requires { length inner.now < 2 ^ 31 }
 {
     let mut at: u32 = 0;
-    loop {
-        let s = strings::piece(inner, at);
-        match s {
-            Spelled::Char { value, next } => {
-                say_hex(value, 1);
-                at = next;
-            }
-            Spelled::End => {
-                return;
-            }
-        }
+    while let Some(found) = strings::piece(inner, at) {
+        say_hex(found.value, 1);
+        at = found.next;
     }
 }
 
 fn say_bytearray(text: &[u8], at: Place)
     requires { Stands text.now at }
 {
-    let look = tokens::token(text, at, b"#[");
-    match look {
-        Look::Found { here, next } => {
+    match tokens::token(text, at, b"#[") {
+        Ok(Look::Found { here, next }) => {
             say_contents(text, here, next);
         }
         _ => {
@@ -202,15 +177,14 @@ fn say_bytearray(text: &[u8], at: Place)
 fn say_contents(text: &[u8], here: Place, at: Place)
     requires { Stands text.now at }
 {
-    let m = bytearrays::bytearray(text, at);
-    match m {
-        Must::Taken { here: _, next } => {
+    match bytearrays::bytearray(text, at) {
+        Ok(token) => {
             head(b"bytes ", here);
             list(text, at);
-            say::place(next);
+            say::place(token.next);
         }
-        Must::Failed { refusal, at: q } => {
-            say::refused(refusal, q);
+        Err(e) => {
+            say::refused(e);
         }
     }
 }
@@ -222,9 +196,8 @@ fn list(text: &[u8], at: Place)
     let mut p = at;
     let mut mode = Mode::Between;
     let mut last: u32 = 256;
-    loop {
-        let s = bytearrays::step(text, mode, last, p);
-        match s {
+    while let Ok(seen) = bytearrays::step(text, mode, last, p) {
+        match seen {
             Seen::Byte {
                 value,
                 mode: run,
@@ -239,7 +212,7 @@ fn list(text: &[u8], at: Place)
                 mode = run;
                 p = next;
             }
-            _ => {
+            Seen::Shut { next: _ } => {
                 return;
             }
         }

@@ -9,14 +9,12 @@ use borrow.Author.Tests.{eq-eqb, ne_eqb}
 use Rattle.characters.specs.declared.place.Place.{Place}
 use Rattle.characters.specs.declared.refusal.Refusal.{Refusal}
 use Rattle.characters.specs.declared.refusal.Refusal.TheVariants.{InvalidTarget}
-use Rattle.characters.specs.declared.tokens.Must.{Must}
-use Rattle.characters.specs.declared.tokens.Must.TheVariants.{Taken, Failed}
 use Rattle.characters.specs.Text.{on_by}
 use Rattle.characters.specs.Tokens.{expected}
+use Rattle.characters.specs.Answers.{Must, failed, taken}
 use Rattle.reading.specs.declared.node.Node.{Node}
 use Rattle.reading.specs.declared.tally.Tally.{Tally}
-use Rattle.reading.specs.declared.answer.Got.{Got}
-use Rattle.reading.specs.declared.answer.Got.TheVariants.{Read, Refused}
+use Rattle.reading.specs.Gots.{Got, Read, Refused}
 use Rattle.reading.specs.Events.{with_id}
 use Rattle.reading.specs.Process.{make, plain}
 use Rattle.reading.proofs.Laws.Does.{by_stop, yes_way, no_way, does_more}
@@ -102,11 +100,11 @@ fun_made e f g m = record { reads = λ s k comps left. reads_fresh e f (reads_nu
 -- ---- break and continue
 
 module _ {s A : List ℕ} {cap : ℕ} {at : Place} {t : Tally} (g : Ready s A cap at t) (kind : Kind) (from : Place) {l : Must} (e : l ≡ expected s at (59 ∷ [])) where
-  pub jump_fails : {k : Refusal} {q : Place} → l ≡ Failed k q → Alone s cap at t (jump_p s kind from at) (Refused k q t) A A
+  pub jump_fails : {k : Refusal} {q : Place} → l ≡ failed k q → Alone s cap at t (jump_p s kind from at) (Refused k q t) A A
   unfolding jump_p
   jump_fails f = record { reads = λ comps left. reads_failed at 59 e f }
 
-  pub jump_made : {h n : Place} {row : Row} {r : Got} {B : List ℕ} → l ≡ Taken h n → row ≡ row_of kind from 0 0 0 → MakesRow cap t n row r A B
+  pub jump_made : {h n : Place} {row : Row} {r : Got} {B : List ℕ} → l ≡ taken h n → row ≡ row_of kind from 0 0 0 → MakesRow cap t n row r A B
       → Alone s cap at t (jump_p s kind from at) r A B
   unfolding jump_p
   jump_made f i m =
@@ -134,23 +132,24 @@ module _ {s A : List ℕ} {cap : ℕ} {at : Place} {t : Tally} (g : Begun s A ca
     is_one : is_target (last_of A t) ≡ true
     is_one = sym target_as ∙ not_false b y
 
-    pub no_end : {k : Refusal} {q : Place} → l ≡ Failed k q
+    pub no_end : {k : Refusal} {q : Place} → l ≡ failed k q
         → Alone s cap (on_by 1 at) t (increment_p s end from op (last_of A t) at) (Refused k q t) A A
     unfolding increment_p target_p
     no_end i = record { reads = λ comps left. reads_on {low = on_by 1 at} (yes_way is_one) (omega arith) (reads_failed at end x i) }
 
-    module _ {h n : Place} (z : l ≡ Taken h n) {r : Got} {B : List ℕ} (m : MakesRow cap t n (row_like A kinds.Int t.records 1 0 0) r A B) where
+    module _ {h n : Place} (z : l ≡ taken h n) {r : Got} {B : List ℕ} (m : MakesRow cap t n (row_like A kinds.Int t.records 1 0 0) r A B) where
       one_made : {comps left : ℕ} → Reads s cap comps left n t (make n (record_of (leaf_row kinds.Int (place_at A t.records) 1)) 1) r A B
       one_made = reads_valued (ready_need at end x g.ready z) refl m
 
       pub one_full : {j : Refusal} {p : Place} {u : Tally} → r ≡ Refused j p u
-          → Alone s cap (on_by 1 at) t (increment_p s end from op (last_of A t) at) r A B
+          → Alone s cap (on_by 1 at) t (increment_p s end from op (last_of A t) at) (Refused j p u) A B
       unfolding increment_p target_p
       one_full i =
-          record {
+          subst (λ (y : Got). Alone s cap (on_by 1 at) t (increment_p s end from op (last_of A t) at) y A B) i
+          (record {
             reads = λ comps left.
                 reads_on {low = on_by 1 at} (yes_way is_one) (omega arith) (reads_taken at end x g.ready.stands z (reads_stop i one_made));
-          }
+          })
 
       module _ {p : Place} {u : Tally} (i : r ≡ Read p u) where
         one_ready : Ready s B cap p u

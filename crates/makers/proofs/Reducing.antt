@@ -9,25 +9,24 @@ use Rattle.characters.specs.declared.place.Place.{Place}
 use Rattle.characters.specs.declared.refusal.Refusal.{Refusal}
 use Rattle.reading.specs.declared.node.Node.{Node}
 use Rattle.reading.specs.declared.tally.Tally.{Tally}
-use Rattle.reading.specs.declared.answer.Got.{Got}
-use Rattle.reading.specs.declared.answer.Got.TheVariants.{Read, Refused}
-use Rattle.reading.specs.declared.answer.Out.{Out}
-use Rattle.reading.specs.declared.answer.Out.TheVariants as out
+use Rattle.reading.specs.Gots.{Got, Read, Refused}
+use Rattle.reading.specs.Outs.{Out}
+use Rattle.reading.specs.Outs as out
 use Rattle.reading.specs.Process.{Grammar}
 use Rattle.reading.specs.Says.{Does}
 use Rattle.reading.proofs.Laws.Does.{by_make, then, stops, yes_way, no_way, does_within}
 use Rattle.records.specs.declared.kind.Kind.TheVariants as kinds
 use Rattle.records.specs.Rows.{layout}
 use Rattle.records.specs.Nodes.{Keeps, MakesRow, row_like}
-use Rattle.records.proofs.Laws.Nodes.{row_read, keeps_layout, read_of, refused_of}
+use Rattle.records.proofs.Laws.Nodes.{row_read, keeps_layout, read_of, refused_of, does_length}
 use Rattle.grammar.specs.Operators.{strength_of}
 use Rattle.grammar.specs.Expressions.{Routine, Rule, Waiting, Pending, reduce_p}
 use Rattle.grammar.specs.Grammar.{grammar}
 use Rattle.makers.specs.declared.chains.Pends.{Pends}
 use Rattle.makers.specs.declared.chains.Chain.{Chain}
-use Rattle.makers.specs.Duties.{last_of, Room}
-use Rattle.makers.specs.Chains.{nothing, waits_at, entries, pending_of, Rising, bottom, above, Sides, Rises, Reduces}
-use Rattle.makers.specs.Laws.Chains.{rising_from, ten_enough, sides_on, pending_kept}
+use Rattle.makers.specs.Duties.{last_of}
+use Rattle.makers.specs.Chains.{nothing, waits_at, entries, pending_of, Rising, bottom, above, Sides, Reduces}
+use Rattle.makers.specs.Laws.Chains.{rising_from, sides_on, pending_kept}
 
 -- ---- an array as a list
 
@@ -61,20 +60,6 @@ pub record Reducing (cap new : ℕ) (at : Place) (c : Chain) (before : List ℕ)
   pub rest : (G : Grammar Routine) (comps left : ℕ) (next : Pending → Node → Rule) (a : Out) (last : List ℕ)
       → Does layout G cap comps left u (reduce_p new at (entries pool c.waiting len) (last_of pool u) next) a pool last
       → Does layout G cap comps left t (reduce_p new at (pending_of before c) (last_of before t) next) a before last
-
-pub reducing_starts : (cap new : ℕ) (at : Place) (c : Chain) (before : List ℕ) (t : Tally) → Room before cap t → Rises before t c
-    → Reducing cap new at c before t before c.len t
-reducing_starts cap new at c before t g r =
-    record {
-      same = refl;
-      ten = ten_enough r;
-      rising = r.rising;
-      sides = r.sides;
-      more = omega arith;
-      room = g.room;
-      ids = refl;
-      rest = λ G comps left next a last d. d;
-    }
 
 -- ---- the steps of the rule
 
@@ -164,13 +149,6 @@ module _ {cap new : ℕ} {at : Place} {c : Chain} {before : List ℕ} {t : Tally
     below : Sides c.waiting (len - 1) u.records
     below = sides_on (omega arith) (omega arith) v.sides
 
-    -- the left side of the newest is a record made
-    pub newest_some : 1 ≤ (get_or c.waiting (len - 1) nothing).left
-    newest_some = v.sides.some (len - 1) (omega arith)
-
-    pub newest_made : (get_or c.waiting (len - 1) nothing).left ≤ cap
-    newest_made = let a = v.sides.most (len - 1) (omega arith) in let b = v.room in omega arith
-
     pub reduced_top : {s : ℕ} → s ≡ strength_of (get_or c.waiting (len - 1) nothing).op → new < s
         → Reduces cap t at new c (record { len = len; got = Read at u }) before pool
     unfolding first others
@@ -187,9 +165,9 @@ module _ {cap new : ℕ} {at : Place} {c : Chain} {before : List ℕ} {t : Tally
       tight : strength_of (get_or c.waiting (len - 1) nothing).op ≤ new
       tight = subst (λ (x : ℕ). x ≤ new) e g
 
-      pub reducing_on : {q : Place} {w : Tally} → r ≡ Read q w → length later ≡ length pool → Reducing cap new at c before t later (len - 1) w
+      pub reducing_on : {q : Place} {w : Tally} → r ≡ Read q w → Reducing cap new at c before t later (len - 1) w
       unfolding first others
-      reducing_on {q} {w} f k =
+      reducing_on {q} {w} f =
           let z = row_read m f in
           let a : w.records ≡ u.records + 1 = ap (λ (x : Tally). x.records) z.tally in
           let b : w.ids ≡ u.ids = ap (λ (x : Tally). x.ids) z.tally in
@@ -197,7 +175,7 @@ module _ {cap new : ℕ} {at : Place} {c : Chain} {before : List ℕ} {t : Tally
           let l : Keeps u.records pool later = subst⁻¹ (Keeps u.records pool) z.pool (keeps_layout pool u.records _) in
           let y : entries later c.waiting (len - 1) ≡ others = pending_kept l c.waiting (len - 1) below in
           record {
-            same = k ∙ v.same;
+            same = does_length (by_make {G = grammar []} {comps = 0} {left = 0} m.makes) ∙ v.same;
             ten = let x : len ≤ 10 = v.ten in omega arith;
             rising = subst⁻¹ (Rising 3) y (rested (subst (Rising 3) at_top v.rising));
             sides = sides_on (omega arith) (omega arith) v.sides;
@@ -211,10 +189,11 @@ module _ {cap new : ℕ} {at : Place} {c : Chain} {before : List ℕ} {t : Tally
                 (subst (λ (xs : Pending). Does layout G cap comps left w (reduce_p new at xs (last_of later w) next) d later last) y i)));
           }
 
-      pub reduced_full : {k : Refusal} {q : Place} {w : Tally} → r ≡ Refused k q w → Reduces cap t at new c (record { len = 0; got = r }) before later
+      pub reduced_full : {k : Refusal} {q : Place} {w : Tally} → r ≡ Refused k q w → Reduces cap t at new c (record { len = 0; got = Refused k q w }) before later
       unfolding first others
       reduced_full {k} {q} {w} f =
-          record {
+          subst (λ (x : Got). Reduces cap t at new c (record { len = 0; got = x }) before later) f
+          (record {
             goes = λ G comps left next x d. never_read (sym f ∙ x);
             stops = λ G comps left next {k = j} {p = p} {u = y} x.
                 v.rest G comps left next (out.Refused j p y) later
@@ -225,4 +204,4 @@ module _ {cap new : ℕ} {at : Place} {c : Chain} {before : List ℕ} {t : Tally
             stays = λ x. never_read (sym f ∙ x);
             made = λ x. never_read (sym f ∙ x);
             none = λ x. refl;
-          }
+          })

@@ -4,9 +4,9 @@ use Rattle.characters.specs.declared.place.Place.{Place}
 use Rattle.characters.specs.declared.refusal.Refusal.{Refusal}
 use Rattle.reading.specs.declared.node.Node.{Node}
 use Rattle.reading.specs.declared.tally.Tally.{Tally}
-use Rattle.reading.specs.declared.answer.Got.TheVariants.{Read, Refused}
-use Rattle.reading.specs.declared.answer.Out.{Out}
-use Rattle.reading.specs.declared.answer.Out.TheVariants as out
+use Rattle.reading.specs.Gots.{Read, Refused}
+use Rattle.reading.specs.Outs.{Out}
+use Rattle.reading.specs.Outs as out
 use Rattle.reading.specs.Process.{Grammar}
 use Rattle.reading.specs.Says.{Does}
 use Rattle.records.specs.Rows.{layout}
@@ -15,7 +15,7 @@ use Rattle.grammar.specs.Operators.{strength_of}
 use Rattle.grammar.specs.Expressions.{Routine, Rule, Waiting, Pending, reduce_p}
 use Rattle.makers.specs.declared.chains.Pends.{Pends}
 use Rattle.makers.specs.declared.chains.Chain.{Chain}
-use Rattle.makers.specs.declared.chains.Reduced.{Reduced}
+use Rattle.makers.specs.Answers.Reduced.{Reduced}
 use Rattle.makers.specs.Duties.{last_of}
 
 -- the place in an array that holds no operator

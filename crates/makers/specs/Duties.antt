@@ -1,19 +1,19 @@
 -- What a reader is called with, and what it owes, where it isn't `Reads` of the grammar's specs alone. Assumes nothing.
-use Rattle.std.specs.Prelude.{Bool, ◌||◌, List, ℕ, zero, suc, ◌≤◌, eqb}
+use Rattle.std.specs.Prelude.{Bool, ◌||◌, List, ℕ, zero, suc, ◌≤◌, eqb, Result, Ok, Err}
 use Rattle.characters.specs.declared.place.Place.{Place}
 use Rattle.characters.specs.declared.refusal.Refusal.TheVariants.{ExpectedToken}
-use Rattle.characters.specs.declared.tokens.Must.{Must}
-use Rattle.characters.specs.declared.tokens.Must.TheVariants.{Taken, Failed}
+use Rattle.characters.specs.declared.refusal.Refused as struct
+use Rattle.characters.specs.Answers.{Must}
 use Rattle.characters.specs.Text.{Text}
 use Rattle.characters.specs.PlaceLaws.{Reached}
 use Rattle.reading.specs.declared.node.Node.{Node}
 use Rattle.reading.specs.declared.tally.Tally.{Tally}
-use Rattle.reading.specs.declared.answer.Got.{Got}
-use Rattle.reading.specs.declared.answer.Got.TheVariants.{Refused}
-use Rattle.reading.specs.declared.answer.Out.{Out}
-use Rattle.reading.specs.declared.answer.Out.TheVariants as out
+use Rattle.reading.specs.Gots.{Got, Refused, got_of}
+use Rattle.reading.specs.Outs.{Out}
+use Rattle.reading.specs.Outs as out
 use Rattle.reading.specs.Process.{Process, plain}
 use Rattle.reading.specs.Says.{Does}
+use Rattle.records.specs.declared.book.Book.{Book}
 use Rattle.records.specs.declared.kind.Kind.TheVariants as kinds
 use Rattle.records.specs.Kinds.{number_of}
 use Rattle.records.specs.Rows.{Lent, layout}
@@ -21,10 +21,11 @@ use Rattle.records.specs.Nodes.{node_at}
 use Rattle.grammar.specs.Expressions.{Routine, list_node}
 use Rattle.grammar.specs.Grammar.{grammar}
 use Rattle.grammar.specs.Reads.{Ready, Reads}
-use Rattle.makers.specs.declared.answers.Items.{Items}
-use Rattle.makers.specs.declared.answers.Items.TheVariants as items
-use Rattle.makers.specs.declared.answers.Part.{Part}
-use Rattle.makers.specs.declared.answers.Part.TheVariants as part
+use Rattle.makers.specs.Answers.Items.{Items, items_by}
+use Rattle.makers.specs.Answers.Items as items
+use Rattle.makers.specs.Answers.Part.{Part}
+use Rattle.makers.specs.Answers.Part as part
+use Rattle.makers.specs.declared.answers.Items as code
 
 -- ---- what goes on from the last record made
 
@@ -54,10 +55,24 @@ pub record Acts (cap : ℕ) (at : Place) (t : Tally) (P : Process Routine) (r : 
 pub record Alone (s : Text) (cap : ℕ) (from : Place) (t : Tally) (P : Process Routine) (r : Got) (before later : List ℕ) : Type 0 where
   pub reads : (comps left : ℕ) → Reads s cap comps left from t P r before later
 
+-- ---- the same of a book: what it has room for, the node of its last record, and what is owed from the book that was to the book that is
+
+abbrev pub HasRoom : Book → ℕ → Type 0
+HasRoom b cap = Room b.pool.now cap b.tally
+
+abbrev pub last_in : Book → Node
+last_in b = last_of b.pool.now b.tally
+
+abbrev pub Acting : ℕ → Place → Book → Process Routine → Result Place struct.Refused → Book → Type 0
+Acting cap at old P r new = Acts cap at old.tally P (got_of r new.tally) old.pool.now new.pool.now
+
+abbrev pub ActingAlone : Text → ℕ → Place → Book → Process Routine → Result Place struct.Refused → Book → Type 0
+ActingAlone s cap from old P r new = Alone s cap from old.tally P (got_of r new.tally) old.pool.now new.pool.now
+
 -- a token that had to be there and is not
 abbrev pub refused_by : Must → Tally → Got
-refused_by (Taken h n) t = Refused ExpectedToken n t
-refused_by (Failed k p) t = Refused k p t
+refused_by (Ok k) t = Refused ExpectedToken k.next t
+refused_by (Err e) t = Refused e.refusal e.at t
 
 -- "Targets are names, members, indexes": by the kind's number
 abbrev pub target_kind : ℕ → Bool
@@ -87,6 +102,10 @@ pub record Lists (s : Text) (cap comps left : ℕ) (from : Place) (t : Tally) (P
 -- and of one whose rule calls no routine
 pub record ListsAlone (s : Text) (cap comps : ℕ) (from : Place) (t : Tally) (P : Process Routine) (r : Items) (before later : List ℕ) : Type 0 where
   pub lists : (left : ℕ) → Lists s cap comps left from t P r before later
+
+-- the same of a book
+abbrev pub Listing : Text → ℕ → ℕ → Place → Book → Process Routine → Result code.Items struct.Refused → Book → Type 0
+Listing s cap comps from old P r new = ListsAlone s cap comps from old.tally P (items_by r new.tally) old.pool.now new.pool.now
 
 -- a part that may be left out: 0 is none
 abbrev pub part_at : List ℕ → Place → ℕ → Node

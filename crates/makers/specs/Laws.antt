@@ -1,4 +1,5 @@
 -- The laws of the makers' contracts, and what the cycle's readers come to by them.
+pub mod Apart
 pub mod Acts
 pub mod Turns
 pub mod Chains

@@ -1,3 +1,4 @@
+pub mod Answers
 pub mod Duties
 pub mod Chains
 pub mod Plain

@@ -1,6 +1,6 @@
 -- NAMES THAT ARE COMPARED: the names of a list as they stand in the pool, from its last item back, the rule of a new one, and what the
 -- walk over them and the readers of such lists owe. Assumes nothing.
-use Rattle.std.specs.Prelude.{◌≡◌, Bool, true, false, ◌&&◌, ◌||◌, List, [], ◌∷◌, ◌++◌, ℕ, zero, suc, ◌≤◌, ◌<◌, leb, ltb, eqb}
+use Rattle.std.specs.Prelude.{◌≡◌, Bool, true, false, ◌&&◌, ◌||◌, List, [], ◌∷◌, ◌++◌, ℕ, zero, suc, ◌≤◌, ◌<◌, leb, ltb, eqb, None, Option, Some}
 use Rattle.characters.specs.declared.place.Place.{Place}
 use Rattle.characters.specs.declared.place.Span.{Span}
 use Rattle.characters.specs.declared.refusal.Refusal.{Refusal}
@@ -9,10 +9,9 @@ use Rattle.characters.specs.Text.{Text}
 use Rattle.characters.specs.Names.{name, free_name, part, same}
 use Rattle.literals.specs.Strings.{decoded, key_of}
 use Rattle.reading.specs.declared.tally.Tally.{Tally}
-use Rattle.reading.specs.declared.answer.Got.{Got}
-use Rattle.reading.specs.declared.answer.Got.TheVariants.{Read, Refused}
-use Rattle.reading.specs.declared.answer.Out.{Out}
-use Rattle.reading.specs.declared.answer.Out.TheVariants as out
+use Rattle.reading.specs.Gots.{Got, Read, Refused}
+use Rattle.reading.specs.Outs.{Out}
+use Rattle.reading.specs.Outs as out
 use Rattle.reading.specs.Process.{Grammar, stop, compare, test, bind}
 use Rattle.reading.specs.Says.{Does}
 use Rattle.records.specs.declared.kind.Kind.TheVariants as kinds
@@ -29,8 +28,6 @@ use Rattle.grammar.specs.Grammar.{grammar}
 use Rattle.grammar.specs.Reads.{EndsBy}
 use Rattle.makers.specs.declared.names.Naming.{Naming}
 use Rattle.makers.specs.declared.names.Naming.TheVariants.{Keys, Parameters, Methods, Functions, Classes}
-use Rattle.makers.specs.declared.names.Held.{Held}
-use Rattle.makers.specs.declared.names.Held.TheVariants.{Named, Nothing}
 
 -- ---- which names an item holds: one, or of the unit's items perhaps none
 
@@ -130,9 +127,9 @@ new_as nm s q at new [] next = next
 new_as nm s q at new (k ∷ ks) next = bind (compare q) (λ p n. test (same_by nm s new k) (stop Duplicate at) (new_as nm s q at new ks next))
 
 -- what an item holds, as code has it
-abbrev pub held_of : Held → List Span
-held_of (Named k) = k ∷ []
-held_of Nothing = []
+abbrev pub held_of : Option Span → List Span
+held_of (Some k) = k ∷ []
+held_of None = []
 
 -- Counting comparisons moves nowhere, makes no record and gives out no id.
 pub record Kept (at : Place) (t : Tally) (p : Place) (u : Tally) : Type 0 where

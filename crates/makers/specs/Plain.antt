@@ -1,6 +1,6 @@
 -- Plain operands: one leaf that is told by its first byte and read without a reader of its own; and what surely follows an operand.
 -- Assumes nothing.
-use Rattle.std.specs.Prelude.{◌≡◌, Bool, true, false, List, [], ℕ, ◌<◌, eqb}
+use Rattle.std.specs.Prelude.{◌≡◌, Bool, true, false, List, [], ℕ, ◌<◌, eqb, Ok}
 use Rattle.characters.specs.declared.place.Place.{Place}
 use Rattle.characters.specs.Text.{Text, Stands, byte_at, on_by}
 use Rattle.reading.specs.declared.node.Node.{Node}
@@ -26,8 +26,8 @@ pub record PlainMade (s : Text) (cap : ℕ) (at : Place) (made bytes : ℕ) (bef
   pub kind : Kind
   pub value : ℕ
   pub room : made < cap
-  pub sign : prefix_of s at ≡ Other at
-  pub atom : atom_of s at ≡ Leaf kind value (on_by bytes at)
+  pub sign : prefix_of s at ≡ Ok (Other at)
+  pub atom : atom_of s at ≡ Ok (Leaf kind value (on_by bytes at))
   pub leaf : is_leaf (number_of kind) ≡ true
   pub stands : Stands s (on_by bytes at)
   pub pool : later ≡ layout before made (record_of (leaf_row kind at value))
@@ -39,7 +39,7 @@ pub record Plain (s : Text) (cap : ℕ) (at : Place) (made bytes : ℕ) (before 
 
 -- No blank and no suffix stands here.
 pub record Rests (s : Text) (at : Place) (r : Bool) : Type 0 where
-  pub rests : r ≡ true → postfix_of s at ≡ Rest at
+  pub rests : r ≡ true → postfix_of s at ≡ Ok (Rest at)
 
 -- A chain ends at this link: nothing that belongs to it follows, or an assignment sign does where one may.
 abbrev pub EndsBy : Bool → Link → Type 0
@@ -50,7 +50,7 @@ EndsBy assigning End = Unit
 
 -- An expression surely ends here.
 pub record Over (s : Text) (at : Place) (assigning r : Bool) : Type 0 where
-  pub rests : r ≡ true → postfix_of s at ≡ Rest at
+  pub rests : r ≡ true → postfix_of s at ≡ Ok (Rest at)
   pub ends : r ≡ true → EndsBy assigning (link_of s at)
 
 -- ---- the expression that an operand begins

@@ -1,14 +1,14 @@
 // The pending operators of a chain: "`op_stack` never needs more than ten entries, one per binding strength: fixed arrays by value".
 ghost use Rattle.std.specs.Prelude.{◌≡◌, ◌≤◌, ◌<◌};
-ghost use Rattle.makers.specs.Duties.{Room};
+ghost use Rattle.makers.specs.Answers.Reduced.{reduced_by};
+ghost use Rattle.makers.specs.Duties.{HasRoom};
 ghost use Rattle.makers.specs.Chains.{Pushed, Reduces, Rises};
 
 use characters::place::Place;
+use characters::refusal::Refused;
 use grammar::operators::strength_of;
-use reading::answer::Got;
-use reading::tally::Tally;
+use records::book::Book;
 use records::kind::Kind;
-use records::nodes::make_like;
 
 // An operator that waits for its right side: its number, and its left side's record, whose position the binary takes.
 #[derive(Clone, Copy)]
@@ -22,13 +22,6 @@ pub struct Pends {
 pub struct Chain {
     pub waiting: [Pends; 10],
     pub len: u32,
-}
-
-// How many operators are left, the oldest ones, and the answer; none are left where it is refused.
-#[derive(Clone, Copy)]
-pub struct Reduced {
-    pub len: u32,
-    pub got: Got,
 }
 
 impl Chain {
@@ -58,13 +51,14 @@ impl Chain {
     }
 }
 
-// Makes the binaries of the pending operators that bind at least as tightly as `new`, newest first, when `at` is reached.
-pub fn reduce(pool: &mut [u32], cap: u32, t: Tally, at: Place, chain: Chain, new: u32) -> Reduced
-    requires { Room pool.old cap t × (1 ≤ t.records) × Rises pool.old t chain }
-    ensures { Reduces cap t at new chain result pool.old pool.new }
+// Makes the binaries of the pending operators that bind at least as tightly as `new`, newest first, when `at` is reached. Answers how many
+// operators are left, the oldest ones.
+pub fn reduce(book: &mut Book, cap: u32, at: Place, chain: Chain, new: u32) -> Result<u32, Refused>
+    requires { HasRoom book.old cap × (1 ≤ book.old.tally.records) × Rises book.old.pool.now book.old.tally chain }
+    ensures lent { book.new.pool.ghost_name ≡ book.old.pool.ghost_name }
+    ensures acts { Reduces cap book.old.tally at new chain (reduced_by at result book.new.tally) book.old.pool.now book.new.pool.now }
 {
     let mut len = chain.len;
-    let mut tally = t;
     while 0 < len {
         let last = len - 1;
         let i = last as usize;
@@ -74,23 +68,9 @@ pub fn reduce(pool: &mut [u32], cap: u32, t: Tally, at: Place, chain: Chain, new
             break;
         }
         let left = waits.left as u32;
-        let made = make_like(
-            pool,
-            cap,
-            tally,
-            at,
-            Kind::Binary,
-            left,
-            op,
-            left,
-            tally.records,
-        );
-        let Got::Read { at: _, tally: u } = made else {
-            return Reduced { len: 0, got: made };
-        };
+        let right = book.tally.records;
+        book.make_like(cap, at, Kind::Binary, left, op, left, right)?;
         len = last;
-        tally = u;
     }
-    let got = Got::Read { at, tally };
-    Reduced { len, got }
+    Ok(len)
 }

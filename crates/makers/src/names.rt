@@ -1,28 +1,28 @@
 // Names that are compared, and parameters.
 ghost use Rattle.std.specs.Prelude.{◌≡◌, [], ◌∷◌, ◌-◌, ◌≤◌, ◌<◌, ◌^◌, eqb, length};
 ghost use Rattle.characters.specs.Names.{same};
-ghost use Rattle.reading.specs.Events.{with_comparison};
+ghost use Rattle.reading.specs.Gots.{got_of};
 ghost use Rattle.literals.specs.Strings.{decoded};
 ghost use Rattle.records.specs.Words.{span_of};
 ghost use Rattle.records.specs.Nodes.{Stored, closure_at, held_at, role_by};
 ghost use Rattle.grammar.specs.Expressions.{turns};
-ghost use Rattle.grammar.specs.Functions.{name_word, parameters_p, params_p};
+ghost use Rattle.grammar.specs.Functions.{parameters_p, params_p};
 ghost use Rattle.grammar.specs.Reads.{Ready};
-ghost use Rattle.makers.specs.Duties.{ListsAlone};
+ghost use Rattle.makers.specs.Duties.{Listing};
 ghost use Rattle.makers.specs.Names.{Chained, Linked, Param, Unique, Well, alike_by, bytes_by, class_of, function_of, held_of, is_long, names_at, names_of, spells};
 
 use crate::answers::Items;
 use characters::names::free_name;
-use characters::place::{Place, Span, byte};
-use characters::refusal::Refusal;
-use characters::tokens::{Look, Must};
+use characters::place::{Place, Span, Token, byte};
+use characters::refusal::{Refusal, Refused};
+use characters::tokens::Look;
 use grammar::leaves::{close_of, follow_of};
-use grammar::rows::row;
+use grammar::rows::{name_word, row};
 use literals::strings::{key, part, same};
-use reading::answer::Got;
 use reading::tally::Tally;
+use records::book::Book;
 use records::kind::Kind;
-use records::nodes::{before_of, held_of, kind_of, make};
+use records::nodes::{before_of, held_of, kind_of};
 use records::words::{pack, unpack};
 
 // The lists whose names are compared: the keys of a dictionary, the parameters of a function, the methods of a class, the functions of
@@ -34,25 +34,6 @@ pub enum Naming {
     Methods,
     Functions,
     Classes,
-}
-
-// What an item of such a list holds: a name, or nothing that is compared.
-#[derive(Clone, Copy)]
-pub enum Held {
-    Named { name: Span },
-    Nothing,
-}
-
-// A name from one place to another, as a row holds it.
-pub fn name_word(here: Place, next: Place) -> u32
-    requires { (here.offset ≤ 65535) × (next.offset ≤ 65535) }
-    ensures { result ≡ name_word here next }
-{
-    let span = Span {
-        from: here.offset,
-        to: next.offset,
-    };
-    pack(span)
 }
 
 // Is it a closure, made before the record `number`?
@@ -67,7 +48,7 @@ fn is_closure(pool: &[u32], number: u32, value: u32) -> bool
         return false;
     }
     let kind = kind_of(pool, value);
-    kind == 12
+    kind == Kind::Closure as u32
 }
 
 // What a `let` declares: 2, a function, where its value is one, else what its mark says.
@@ -84,54 +65,51 @@ pub fn role_of(pool: &[u32], number: u32) -> u32
 }
 
 // The function that a statement declares.
-fn function_of(pool: &[u32], number: u32) -> Held
+fn function_of(pool: &[u32], number: u32) -> Option<Span>
     requires { Stored pool.now number }
     ensures { held_of result ≡ function_of pool.now number }
 {
     let kind = kind_of(pool, number);
-    if kind != 29 {
-        return Held::Nothing;
+    if kind != Kind::Let as u32 {
+        return None;
     }
     let word = held_of(pool, number, 1);
     let role = role_of(pool, number);
     if role != 2 {
-        return Held::Nothing;
+        return None;
     }
-    let name = unpack(word);
-    Held::Named { name }
+    Some(unpack(word))
 }
 
 // The class that a statement declares.
-fn class_of(pool: &[u32], number: u32) -> Held
+fn class_of(pool: &[u32], number: u32) -> Option<Span>
     requires { Stored pool.now number }
     ensures { held_of result ≡ class_of pool.now number }
 {
     let kind = kind_of(pool, number);
-    if kind != 30 {
-        return Held::Nothing;
+    if kind != Kind::ClassDecl as u32 {
+        return None;
     }
     let class = held_of(pool, number, 0);
     if number <= class {
-        return Held::Nothing;
+        return None;
     }
     if class == 0 {
-        return Held::Nothing;
+        return None;
     }
     let word = held_of(pool, class, 1);
-    let name = unpack(word);
-    Held::Named { name }
+    Some(unpack(word))
 }
 
 // A word that holds a name.
-fn named(word: u32) -> Held
+fn named(word: u32) -> Option<Span>
     ensures { held_of result ≡ span_of word ∷ [] }
 {
-    let name = unpack(word);
-    Held::Named { name }
+    Some(unpack(word))
 }
 
 // The name that an item holds.
-fn name_at(pool: &[u32], naming: Naming, item: u32) -> Held
+fn name_at(pool: &[u32], naming: Naming, item: u32) -> Option<Span>
     requires { Linked naming pool.now item }
     ensures { held_of result ≡ names_at naming pool.now item }
 {
@@ -249,71 +227,46 @@ fn same_by(spelled: bool, a: &[u8], b: &[u8]) -> bool
     same_bytes(a, b)
 }
 
-// After one more comparison.
-fn compared(t: Tally) -> Tally
-    requires { t.comparisons < 2 ^ 32 - 1 }
-    ensures { result ≡ with_comparison t }
-{
-    let comparisons = t.comparisons + 1;
-    Tally {
-        records: t.records,
-        comparisons,
-        ids: t.ids,
-    }
-}
-
 // THE WALK: a new name and those of the items from `last` back, "newest first, up to the first equal". Each comparison is counted when
 // `at` is reached; a name that stands there already is 30 at `from`.
 pub fn new_name(
     text: &[u8],
     pool: &[u32],
     comps: u32,
-    t: Tally,
+    tally: &mut Tally,
     at: Place,
     from: Place,
     name: Span,
     last: u32,
     naming: Naming,
-) -> Got
+) -> Result<Place, Refused>
     requires { (length text.now < 2 ^ 31) × Chained naming pool.now last }
-    ensures { Unique naming text.now comps t at from name (names_of naming pool.now last) result }
+    ensures { Unique naming text.now comps tally.old at from name (names_of naming pool.now last) (got_of result tally.new) }
 {
     let spelled = is_spelled(naming);
     let mine = bytes_of(text, spelled, name);
     let mut item = last;
-    let mut tally = t;
-    loop {
-        if item == 0 {
-            return Got::Read { at, tally };
-        }
+    while item != 0 {
         let before = before_of(pool, item);
-        let held = name_at(pool, naming, item);
-        match held {
-            Held::Nothing => {
-                item = before;
+        if let Some(other) = name_at(pool, naming, item) {
+            if comps <= tally.comparisons {
+                return Err(Refused {
+                    refusal: Refusal::TooManyComparisons,
+                    at,
+                });
             }
-            Held::Named { name: other } => {
-                if comps <= tally.comparisons {
-                    return Got::Refused {
-                        refusal: Refusal::TooManyComparisons,
-                        at,
-                        tally,
-                    };
-                }
-                tally = compared(tally);
-                let theirs = bytes_of(text, spelled, other);
-                let equal = same_by(spelled, mine, theirs);
-                if equal {
-                    return Got::Refused {
-                        refusal: Refusal::Duplicate,
-                        at: from,
-                        tally,
-                    };
-                }
-                item = before;
+            tally.comparisons += 1;
+            let theirs = bytes_of(text, spelled, other);
+            if same_by(spelled, mine, theirs) {
+                return Err(Refused {
+                    refusal: Refusal::Duplicate,
+                    at: from,
+                });
             }
         }
+        item = before;
     }
+    Ok(at)
 }
 
 // A new key of a dictionary that ends at `at`, and those of the items from `last` back.
@@ -321,122 +274,140 @@ pub fn new_key(
     text: &[u8],
     pool: &[u32],
     comps: u32,
-    t: Tally,
+    tally: &mut Tally,
     at: Place,
     key: Span,
     last: u32,
-) -> Got
+) -> Result<Place, Refused>
     requires { (length text.now < 2 ^ 31) × Chained Naming.Keys pool.now last }
-    ensures { Unique Naming.Keys text.now comps t at at key (names_of Naming.Keys pool.now last) result }
+    ensures { Unique Naming.Keys text.now comps tally.old at at key (names_of Naming.Keys pool.now last) (got_of result tally.new) }
 {
-    new_name(text, pool, comps, t, at, at, key, last, Naming::Keys)
+    new_name(text, pool, comps, tally, at, at, key, last, Naming::Keys)
+}
+
+// The walk over the records of a book, which stay as they are.
+pub fn compare_name(
+    text: &[u8],
+    book: &mut Book,
+    comps: u32,
+    at: Place,
+    from: Place,
+    name: Span,
+    last: u32,
+    naming: Naming,
+) -> Result<Place, Refused>
+    requires { (length text.now < 2 ^ 31) × Chained naming book.old.pool.now last }
+    ensures lent { book.new.pool.ghost_name ≡ book.old.pool.ghost_name }
+    ensures compared { Unique naming text.now comps book.old.tally at from name (names_of naming book.old.pool.now last) (got_of result book.new.tally) }
+    ensures same { book.new.pool.now ≡ book.old.pool.now }
+{
+    let mut tally = book.tally;
+    let pool = book.words();
+    let new = new_name(text, pool, comps, &mut tally, at, from, name, last, naming);
+    book.tally = tally;
+    new
+}
+
+// The same of a new key.
+pub fn compare_key(
+    text: &[u8],
+    book: &mut Book,
+    comps: u32,
+    at: Place,
+    key: Span,
+    last: u32,
+) -> Result<Place, Refused>
+    requires { (length text.now < 2 ^ 31) × Chained Naming.Keys book.old.pool.now last }
+    ensures lent { book.new.pool.ghost_name ≡ book.old.pool.ghost_name }
+    ensures compared { Unique Naming.Keys text.now comps book.old.tally at at key (names_of Naming.Keys book.old.pool.now last) (got_of result book.new.tally) }
+    ensures same { book.new.pool.now ≡ book.old.pool.now }
+{
+    let mut tally = book.tally;
+    let pool = book.words();
+    let new = new_key(text, pool, comps, &mut tally, at, key, last);
+    book.tally = tally;
+    new
 }
 
 // name, and its item
-fn param(text: &[u8], pool: &mut [u32], cap: u32, comps: u32, last: u32, at: Place, t: Tally) -> Got
-    requires { Ready text.now pool.old cap at t × Well Naming.Parameters pool.old t last }
-    ensures { Param text.now cap comps last at t result pool.old pool.new }
+fn param(
+    text: &[u8],
+    book: &mut Book,
+    cap: u32,
+    comps: u32,
+    last: u32,
+    at: Place,
+) -> Result<Place, Refused>
+    requires { Ready text.now book.old.pool.now cap at book.old.tally × Well Naming.Parameters book.old.pool.now book.old.tally last }
+    ensures lent { book.new.pool.ghost_name ≡ book.old.pool.ghost_name }
+    ensures acts { Param text.now cap comps last at book.old.tally (got_of result book.new.tally) book.old.pool.now book.new.pool.now }
 {
-    let read = free_name(text, at);
-    match read {
-        Must::Failed { refusal, at: q } => Got::Refused {
-            refusal,
-            at: q,
-            tally: t,
-        },
-        Must::Taken { here, next } => {
-            let name = Span {
-                from: here.offset,
-                to: next.offset,
-            };
-            let new = new_name(
-                text,
-                pool,
-                comps,
-                t,
-                next,
-                next,
-                name,
-                last,
-                Naming::Parameters,
-            );
-            let Got::Read { at: _, tally: u } = new else {
-                return new;
-            };
-            let nowhere = Place {
-                offset: 0,
-                line: 0,
-                column: 0,
-            };
-            let word = name_word(here, next);
-            let made = row(Kind::Param, nowhere, word, last, 0);
-            make(pool, cap, u, next, made)
-        }
-    }
-}
-
-// The list, which its closing sign ends.
-fn ended(at: Place, last: u32, count: u32, tally: Tally) -> Items
-    ensures { result ≡ Items.Read at last count tally }
-{
-    Items::Read {
-        at,
+    let Token { here, next } = free_name(text, at)?;
+    let name = Span {
+        from: here.offset,
+        to: next.offset,
+    };
+    compare_name(
+        text,
+        book,
+        comps,
+        next,
+        next,
+        name,
         last,
-        count,
-        tally,
-    }
-}
-
-// A refusal of an item, of what stands after it, or in its place.
-fn halted(refusal: Refusal, at: Place, tally: Tally) -> Items
-    ensures { result ≡ Items.Refused refusal at tally }
-{
-    Items::Refused { refusal, at, tally }
+        Naming::Parameters,
+    )?;
+    let nowhere = Place {
+        offset: 0,
+        line: 0,
+        column: 0,
+    };
+    let word = name_word(here, next);
+    let made = row(Kind::Param, nowhere, word, last, 0);
+    book.make(cap, next, made)
 }
 
 // { name ',' } [ name ] end
 fn params(
     text: &[u8],
-    pool: &mut [u32],
+    book: &mut Book,
     cap: u32,
     comps: u32,
     end: u8,
     at: Place,
-    t: Tally,
-) -> Items
-    requires { Ready text.now pool.old cap at t }
-    ensures { ListsAlone text.now cap comps at t (params_p (turns text.now) text.now end [] 0 0 at) result pool.old pool.new }
+) -> Result<Items, Refused>
+    requires { Ready text.now book.old.pool.now cap at book.old.tally }
+    ensures lent { book.new.pool.ghost_name ≡ book.old.pool.ghost_name }
+    ensures acts { Listing text.now cap comps at book.old (params_p (turns text.now) text.now end [] 0 0 at) result book.new }
 {
     let mut here = at;
-    let mut tally = t;
     let mut last: u32 = 0;
     let mut count: u32 = 0;
     loop {
-        let close = close_of(text, here, end);
-        match close {
-            Look::Halted { refusal, at: q } => return halted(refusal, q, tally),
-            Look::Found { here: _, next } => return ended(next, last, count, tally),
-            Look::Missing { here: q } => {
-                let made = param(text, pool, cap, comps, last, q, tally);
-                match made {
-                    Got::Refused {
-                        refusal,
-                        at: p,
-                        tally: u,
-                    } => return halted(refusal, p, u),
-                    Got::Read { at: r, tally: u } => {
-                        last = u.records;
-                        count += 1;
-                        tally = u;
-                        let follow = follow_of(text, r, end);
-                        match follow {
-                            Look::Halted { refusal, at: p } => return halted(refusal, p, tally),
-                            Look::Found { here: _, next } => return ended(next, last, count, tally),
-                            Look::Missing { here: next } => here = next,
-                        }
-                    }
-                }
+        let close = close_of(text, here, end)?;
+        let first = match close {
+            Look::Found { here: _, next } => {
+                return Ok(Items {
+                    at: next,
+                    last,
+                    count,
+                });
             }
+            Look::Missing { here } => here,
+        };
+        let after = param(text, book, cap, comps, last, first)?;
+        last = book.tally.records;
+        count += 1;
+        let follow = follow_of(text, after, end)?;
+        match follow {
+            Look::Found { here: _, next } => {
+                return Ok(Items {
+                    at: next,
+                    last,
+                    count,
+                });
+            }
+            Look::Missing { here: next } => here = next,
         }
     }
 }
@@ -444,33 +415,22 @@ fn params(
 // parameters: { name ',' } [ name ] end; "at most 255", tested after the closing sign
 pub fn parameters(
     text: &[u8],
-    pool: &mut [u32],
+    book: &mut Book,
     cap: u32,
     comps: u32,
     end: u8,
     at: Place,
-    t: Tally,
-) -> Items
-    requires { Ready text.now pool.old cap at t }
-    ensures { ListsAlone text.now cap comps at t (parameters_p text.now end at) result pool.old pool.new }
+) -> Result<Items, Refused>
+    requires { Ready text.now book.old.pool.now cap at book.old.tally }
+    ensures lent { book.new.pool.ghost_name ≡ book.old.pool.ghost_name }
+    ensures acts { Listing text.now cap comps at book.old (parameters_p text.now end at) result book.new }
 {
-    let items = params(text, pool, cap, comps, end, at, t);
-    match items {
-        Items::Refused {
-            refusal,
-            at: q,
-            tally,
-        } => halted(refusal, q, tally),
-        Items::Read {
-            at: q,
-            last,
-            count,
-            tally,
-        } => {
-            if 256 <= count {
-                return halted(Refusal::TooManyArguments, q, tally);
-            }
-            ended(q, last, count, tally)
-        }
+    let items = params(text, book, cap, comps, end, at)?;
+    if 256 <= items.count {
+        return Err(Refused {
+            refusal: Refusal::TooManyArguments,
+            at: items.at,
+        });
     }
+    Ok(items)
 }

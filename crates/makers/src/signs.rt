@@ -1,69 +1,79 @@
 // What a prefix sign makes of its operand, which is the last record made.
 ghost use Rattle.std.specs.Prelude.{◌≡◌, ◌≤◌};
 ghost use Rattle.grammar.specs.Expressions.{minus_float, minus_int, minus_p, plus_p, sign_p};
-ghost use Rattle.makers.specs.Duties.{Acts, Room, last_of};
+ghost use Rattle.makers.specs.Duties.{Acting, HasRoom, last_in};
 
 use characters::place::Place;
-use characters::refusal::Refusal;
+use characters::refusal::{Refusal, Refused};
 use grammar::rows::{leaf_row, row};
-use reading::answer::Got;
-use reading::tally::Tally;
+use records::book::Book;
 use records::kind::Kind;
-use records::nodes::{kind_of, make, make_like, position_of, value_of};
+
+// The kinds of number literals, as a row holds them.
+const INT: u32 = Kind::Int as u32;
+
+const FLOAT: u32 = Kind::Float as u32;
 
 // The sign `sign` at `here`, its operand read up to `at`.
-pub fn signed(pool: &mut [u32], cap: u32, t: Tally, sign: u32, here: Place, at: Place) -> Got
-    requires { Room pool.old cap t × (1 ≤ t.records) }
-    ensures { Acts cap at t (sign_p sign here (last_of pool.old t) at) result pool.old pool.new }
+pub fn signed(
+    book: &mut Book,
+    cap: u32,
+    sign: u32,
+    here: Place,
+    at: Place,
+) -> Result<Place, Refused>
+    requires { HasRoom book.old cap × (1 ≤ book.old.tally.records) }
+    ensures lent { book.new.pool.ghost_name ≡ book.old.pool.ghost_name }
+    ensures acts { Acting cap at book.old (sign_p sign here (last_in book.old) at) result book.new }
 {
     if sign == 33 {
-        let made = row(Kind::Unary, here, 2, t.records, 0);
-        return make(pool, cap, t, at, made);
+        let made = row(Kind::Unary, here, 2, book.tally.records, 0);
+        return book.make(cap, at, made);
     }
     if sign == 45 {
-        return minus(pool, cap, t, at);
+        return minus(book, cap, at);
     }
-    plus(pool, cap, t, at)
+    plus(book, cap, at)
 }
 
 // A minus: a number literal is made again with its sign turned.
-fn minus(pool: &mut [u32], cap: u32, t: Tally, at: Place) -> Got
-    requires { Room pool.old cap t × (1 ≤ t.records) }
-    ensures { Acts cap at t (minus_p (last_of pool.old t) at) result pool.old pool.new }
+fn minus(book: &mut Book, cap: u32, at: Place) -> Result<Place, Refused>
+    requires { HasRoom book.old cap × (1 ≤ book.old.tally.records) }
+    ensures lent { book.new.pool.ghost_name ≡ book.old.pool.ghost_name }
+    ensures acts { Acting cap at book.old (minus_p (last_in book.old) at) result book.new }
 {
-    let node = t.records;
-    let kind = kind_of(pool, node);
+    let node = book.tally.records;
+    let kind = book.kind_of(node);
     match kind {
-        4 => {
-            let position = position_of(pool, node);
-            let value = minus_int(value_of(pool, node));
+        INT => {
+            let position = book.position_of(node);
+            let value = minus_int(book.value_of(node));
             let made = leaf_row(Kind::Int, position, value);
-            make(pool, cap, t, at, made)
+            book.make(cap, at, made)
         }
-        5 => {
-            let position = position_of(pool, node);
-            let value = minus_float(value_of(pool, node));
+        FLOAT => {
+            let position = book.position_of(node);
+            let value = minus_float(book.value_of(node));
             let made = leaf_row(Kind::Float, position, value);
-            make(pool, cap, t, at, made)
+            book.make(cap, at, made)
         }
-        _ => make_like(pool, cap, t, at, Kind::Unary, node, 1, node, 0),
+        _ => book.make_like(cap, at, Kind::Unary, node, 1, node, 0),
     }
 }
 
 // A plus: a number literal stays as it is.
-fn plus(pool: &[u32], cap: u32, t: Tally, at: Place) -> Got
-    requires { Room pool.now cap t × (1 ≤ t.records) }
-    ensures { Acts cap at t (plus_p (last_of pool.now t) at) result pool.now pool.now }
+fn plus(book: &Book, cap: u32, at: Place) -> Result<Place, Refused>
+    requires { HasRoom book.now cap × (1 ≤ book.now.tally.records) }
+    ensures { Acting cap at book.now (plus_p (last_in book.now) at) result book.now }
 {
-    let kind = kind_of(pool, t.records);
+    let kind = book.kind_of(book.tally.records);
     match kind {
-        4 => Got::Read { at, tally: t },
-        5 => Got::Read { at, tally: t },
-        _ => Got::Refused {
+        INT => Ok(at),
+        FLOAT => Ok(at),
+        _ => Err(Refused {
             refusal: Refusal::UnaryPlus,
             at,
-            tally: t,
-        },
+        }),
     }
 }
 

@@ -2,38 +2,36 @@
 // writing is said on standard error. The program itself always ends with status 0; the launcher `plushlist` gives the exit status.
 #![tactic(auto)]
 
+ghost use Rattle.std.specs.Prelude.{◌≤◌, IfOk, length};
+
 use std::io::Read;
 use unit::entries::read;
 
 fn main(rt: HostRuntime) {
     let mut space = io::large_buffer();
-    let got = fill(rt, &mut space);
-    if got < 0 {
-        io::write_all(2, b"plushlist: could not read standard input\n");
-        return;
+    match fill(rt, &mut space) {
+        Ok(n) => list(&space[..n]),
+        Err(_) => {
+            io::write_all(2, b"plushlist: could not read standard input\n");
+        }
     }
-    let n = io::count(got, &space);
-    list(&space[..n]);
 }
 
-// Reads until the input ends or the buffer is full, and answers how many bytes there are, or -1 where a read fails. A full buffer holds
-// 65,536 bytes, one more than a text may have: whatever follows them, the answer is refusal 1.
-fn fill(rt: HostRuntime, space: &mut [u8]) -> isize {
+// Reads until the input ends or the buffer is full, and answers how many bytes there are. A full buffer holds 65,536 bytes, one more than a
+// text may have: whatever follows them, the answer is refusal 1.
+fn fill(rt: HostRuntime, space: &mut [u8]) -> std::io::Result<usize>
+    ensures { IfOk result (λ n. n ≤ length space.new) }
+{
     let mut input = rt.stdin();
-    let mut count: usize = 0;
+    let mut count = 0;
     while count < space.len() {
-        let more = match input.read(&mut space[count..]) {
-            Ok(n) => n,
-            Err(_) => {
-                return -1;
-            }
-        };
+        let more = input.read(&mut space[count..])?;
         if more == 0 {
-            return count as isize;
+            break;
         }
         count += more;
     }
-    count as isize
+    Ok(count)
 }
 
 // "string form, nesting 256, a pool of 1,024 records, the largest u32 as comparison limit"

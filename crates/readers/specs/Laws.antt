@@ -1,5 +1,6 @@
 -- The laws of the readers' contracts, by which each of their returns is proved.
 pub mod Answers
+pub mod Exits
 pub mod Operands
 pub mod Lists
 pub mod Functions

@@ -9,3 +9,4 @@ pub mod Unlimited
 pub mod Entry
 pub mod Says
 pub mod Does
+pub mod Apart

@@ -5,7 +5,7 @@ use Rattle.std.proofs.Math.Path.{ap}
 use Rattle.characters.specs.declared.place.Place.{Place}
 use Rattle.characters.specs.Refusals.{number_of}
 use Rattle.reading.specs.declared.answer.Answer.{Answer}
-use Rattle.reading.specs.declared.answer.Out.{Out}
+use Rattle.reading.specs.Outs.{Out}
 use Rattle.reading.specs.Events.{Which, Crossed, records_of, comparisons_of, start}
 use Rattle.reading.specs.Limits.{Limits, limited, cut}
 use Rattle.reading.specs.Process.{Process, Grammar, reading, unlimited}

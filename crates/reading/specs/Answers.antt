@@ -5,8 +5,7 @@ use Rattle.characters.specs.declared.refusal.Refusal.{Refusal}
 use Rattle.characters.specs.declared.refusal.Refusal.TheVariants.{TooDeep, PoolFull, TooManyComparisons}
 use Rattle.characters.specs.Refusals.{number_of}
 use Rattle.reading.specs.declared.tally.Tally.{Tally}
-use Rattle.reading.specs.declared.answer.Out.{Out}
-use Rattle.reading.specs.declared.answer.Out.TheVariants.{Read, Refused}
+use Rattle.reading.specs.Outs.{Out, Read, Refused}
 use Rattle.reading.specs.declared.answer.Answer.{Answer}
 use Rattle.reading.specs.Events.{Which, levels, records, comparisons, End, Done, Stop, Crossed, Spent, Outcome, records_of, comparisons_of}
 

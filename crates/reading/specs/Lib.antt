@@ -1,6 +1,8 @@
 pub mod Events
 pub mod Limits
 pub mod Process
+pub mod Outs
+pub mod Gots
 pub mod Answers
 pub mod Demands
 pub mod Suits

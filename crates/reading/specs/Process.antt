@@ -1,12 +1,9 @@
 -- What a grammar's rule does, as data, and the one interpreter that reads by it, with limits or without. Assumes nothing.
 -- N is the type of the routines that take a level (expression, statement, ..): any type, so nothing here knows a grammar.
-use Rattle.std.specs.Prelude.{ℕ, zero, suc, ◌+◌, List, ◌++◌, Bool, true, false}
+use Rattle.std.specs.Prelude.{ℕ, zero, suc, ◌+◌, List, ◌++◌, Bool, true, false, Err, Ok}
 use Rattle.characters.specs.declared.place.Place.{Place}
 use Rattle.characters.specs.declared.refusal.Refusal.{Refusal}
-use Rattle.characters.specs.declared.tokens.Look.{Look}
-use Rattle.characters.specs.declared.tokens.Look.TheVariants.{Found, Missing, Halted}
-use Rattle.characters.specs.declared.tokens.Must.{Must}
-use Rattle.characters.specs.declared.tokens.Must.TheVariants.{Taken, Failed}
+use Rattle.characters.specs.Answers.{Looked, Must, found, missing}
 use Rattle.reading.specs.declared.node.Node.{Node}
 use Rattle.reading.specs.declared.tally.Tally.{Tally}
 use Rattle.reading.specs.Events.{Rec, Event, entered, recorded, compared, numbered, levels, End, Done, Stop, Crossed, Spent, Outcome, ended, cons, start, steps}
@@ -22,8 +19,8 @@ pub data Process (N : Type 0) : Type 0 where
   fresh : Place → Process N  -- the next id, as the number of the node answered
   call : N → Place → Process N  -- a routine, one level deeper
   test : Bool → Process N → Process N → Process N  -- if true the first, else the second
-  look : Look → (Place → Place → Process N) → (Place → Process N) → Process N  -- found, or missing; halted is a refusal
-  must : Must → (Place → Place → Process N) → Process N  -- taken; failed is a refusal
+  look : Looked → (Place → Place → Process N) → (Place → Process N) → Process N  -- found, or missing, or a refusal
+  must : Must → (Place → Place → Process N) → Process N  -- taken, or a refusal
   bind : Process N → (Place → Node → Process N) → Process N  -- one after the other
 
 -- The rule of each routine, at each place.
@@ -76,8 +73,8 @@ under sub L t (fresh p) = numbering L t p
 under sub L t (call nt p) = sub nt p t
 under sub L t (test b x y) = elim b [ true ↦ under sub L t x | false ↦ under sub L t y ]
 under sub L t (look l f g) =
-    elim l [ Found h n ↦ under sub L t (f h n) | Missing h ↦ under sub L t (g h) | Halted k p ↦ ended (Stop k p) ]
-under sub L t (must l f) = elim l [ Taken h n ↦ under sub L t (f h n) | Failed k p ↦ ended (Stop k p) ]
+    elim l [ found h n ↦ under sub L t (f h n) | missing h ↦ under sub L t (g h) | Err e ↦ ended (Stop e.refusal e.at) ]
+under sub L t (must l f) = elim l [ Ok x ↦ under sub L t (f x.here x.next) | Err e ↦ ended (Stop e.refusal e.at) ]
 under sub L t (bind x k) = after t (under sub L t x) (λ p n u. under sub L u (k p n))
 
 -- A routine called at level d, with so many levels left: one more is entered, or 5 is given. "It is tested on entry."

@@ -3,7 +3,7 @@
 use Rattle.std.specs.Prelude.{◌≡◌, List, [], ◌∷◌, ℕ, ◌+◌, ◌-◌, ◌≤◌}
 use Rattle.characters.specs.declared.place.Place.{Place}
 use Rattle.reading.specs.declared.tally.Tally.{Tally}
-use Rattle.reading.specs.declared.answer.Out.{Out}
+use Rattle.reading.specs.Outs.{Out}
 use Rattle.reading.specs.Events.{Rec, Outcome, records_of, start, steps}
 use Rattle.reading.specs.Limits.{limited}
 use Rattle.reading.specs.Process.{Process, Grammar, making, comparing, under, run}

@@ -1,12 +1,11 @@
 -- What a grammar has to show of itself: that its recursion ends, that its loops never run out, that it gives only refusals that are
 -- a rule's to give, and that its records refer to earlier ones only. It is stated as what must hold before each step, so a grammar's
 -- proof goes along its rules (Laws/Rules.antt has one law for each step). Assumes nothing.
-use Rattle.std.specs.Prelude.{◌≡◌, List, [], ◌∷◌, ◌++◌, Bool, true, false, ◌||◌, ℕ, ◌+◌, ◌≤◌, ◌<◌, T, leb, eqb, length}
+use Rattle.std.specs.Prelude.{◌≡◌, List, [], ◌∷◌, ◌++◌, Bool, true, false, ◌||◌, ℕ, ◌+◌, ◌≤◌, ◌<◌, T, leb, eqb, length, Err, Ok}
 use Rattle.characters.specs.declared.place.Place.{Place}
 use Rattle.characters.specs.declared.refusal.Refusal.{Refusal}
-use Rattle.characters.specs.declared.tokens.Look.TheVariants.{Found, Missing, Halted}
-use Rattle.characters.specs.declared.tokens.Must.TheVariants.{Taken, Failed}
 use Rattle.characters.specs.Refusals.{number_of}
+use Rattle.characters.specs.Answers.{found, missing}
 use Rattle.reading.specs.declared.node.Node.{Node}
 use Rattle.reading.specs.Events.{Rec, Earlier, End, Done, Stop, Crossed, Spent}
 use Rattle.reading.specs.Process.{Process, done, stop, spent, make, compare, fresh, call, test, look, must, bind, Grammar, node_as, plain}
@@ -54,8 +53,8 @@ module _ {N : Type 0} (C : Choice N) where
       × ((now : List Rec) (q : Place) (n : Node) → Since before now → C.claim nt p before now q n → Q now q n)
   Meets m before Q (test b x y) = elim b [ true ↦ Meets m before Q x | false ↦ Meets m before Q y ]
   Meets m before Q (look l f g) =
-      elim l [ Found h n ↦ Meets m before Q (f h n) | Missing h ↦ Meets m before Q (g h) | Halted k p ↦ T (proper k) ]
-  Meets m before Q (must l f) = elim l [ Taken h n ↦ Meets m before Q (f h n) | Failed k p ↦ T (proper k) ]
+      elim l [ found h n ↦ Meets m before Q (f h n) | missing h ↦ Meets m before Q (g h) | Err e ↦ T (proper e.refusal) ]
+  Meets m before Q (must l f) = elim l [ Ok t ↦ Meets m before Q (f t.here t.next) | Err e ↦ T (proper e.refusal) ]
   Meets m before Q (bind x k) = Meets m before (λ now q n. Meets m now Q (k q n)) x
 
   -- Every record of a list is fine after those before it.

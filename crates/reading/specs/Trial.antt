@@ -5,11 +5,8 @@
 use Rattle.std.specs.Prelude.{ℕ, zero, suc, ◌+◌, ◌-◌, List, [], ◌∷◌, Bool, true, false, ◌&&◌, ltb, leb, eqb, length}
 use Rattle.characters.specs.declared.place.Place.{Place}
 use Rattle.characters.specs.declared.refusal.Refusal.TheVariants.{ExpectedToken, UnknownAtom, EndOfInput, Duplicate}
-use Rattle.characters.specs.declared.tokens.Look.{Look}
-use Rattle.characters.specs.declared.tokens.Look.TheVariants.{Found, Missing, Halted}
-use Rattle.characters.specs.declared.tokens.Must.{Must}
-use Rattle.characters.specs.declared.tokens.Must.TheVariants.{Taken, Failed}
 use Rattle.characters.specs.Text.{Text, byte_at, start as first}
+use Rattle.characters.specs.Answers.{Looked, Must, failed, found, missing, taken}
 use Rattle.reading.specs.Events.{Field, word, ref, Rec, Outcome}
 use Rattle.reading.specs.Limits.{limited}
 use Rattle.reading.specs.Process.{Process, done, stop, spent, make, compare, fresh, call, test, look, must, bind, Grammar, reading}
@@ -19,19 +16,19 @@ abbrev pub on : Place → Place
 on p = record { offset = p.offset + 1; line = p.line; column = p.column + 1 }
 
 -- A byte from low to high may be there.
-abbrev pub seen : Bool → Bool → Place → Look
-seen true hit p = Halted EndOfInput p
-seen false true p = Found p (on p)
-seen false false p = Missing p
+abbrev pub seen : Bool → Bool → Place → Looked
+seen true hit p = failed EndOfInput p
+seen false true p = found p (on p)
+seen false false p = missing p
 
-unfoldable pub sign : Text → Place → ℕ → ℕ → Look
+unfoldable pub sign : Text → Place → ℕ → ℕ → Looked
 sign s p low high =
     seen (leb (length s) p.offset) (leb low (byte_at s p.offset) && leb (byte_at s p.offset) high) p
 
 -- This byte has to be there.
 abbrev pub held : Bool → Place → Must
-held true p = Taken p (on p)
-held false p = Failed ExpectedToken p
+held true p = taken p (on p)
+held false p = failed ExpectedToken p
 
 unfoldable pub shut : Text → Place → ℕ → Must
 shut s p b = held (eqb (byte_at s p.offset) b) p

@@ -5,7 +5,7 @@ ghost use Rattle.reading.specs.Process.{plain};
 use characters::place::Place;
 
 // A record made: its number from 1 on, its kind, its position, and a value that later rules look at.
-#[derive(Clone, Copy)]
+#[derive(Clone, Copy, Debug, PartialEq, Eq)]
 pub struct Node {
     pub number: u32,
     pub kind: u32,

@@ -1,5 +1,5 @@
 -- The records of 01's example `f(1);` in a pool, by computation. Assumes nothing.
-use Rattle.std.specs.Prelude.{◌≡◌, refl, List, [], ◌∷◌, map, ℕ, ◌+◌, take, drop, replicate}
+use Rattle.std.specs.Prelude.{◌≡◌, refl, List, [], ◌∷◌, map, ℕ, ◌+◌, take, drop, replicate, Some}
 use Rattle.std.proofs.Common.{arith}
 use Rattle.characters.specs.declared.place.Place.{Place}
 use Rattle.reading.specs.Demands.{AllEarlier}
@@ -8,7 +8,6 @@ use Rattle.reading.specs.Says.{laid}
 use Rattle.records.specs.declared.kind.Kind.{Kind}
 use Rattle.records.specs.declared.kind.Kind.TheVariants.{Int, Name, Call, Do, Block, Fun, Item, Stated}
 use Rattle.records.specs.declared.row.Row.{Row}
-use Rattle.records.specs.declared.row.RowAt.TheVariants.{Here}
 use Rattle.records.specs.Words.{span_word}
 use Rattle.records.specs.Rows.{record_of, layout, row_at, rows_at}
 
@@ -52,7 +51,7 @@ unfolding laid layout
 past_it = refl
 
 -- Read back they are the rows.
-read_back : rows_at pool 0 8 ≡ map Here rows
+read_back : rows_at pool 0 8 ≡ map Some rows
 unfolding laid layout row_at
 read_back = refl
 

@@ -1,18 +1,19 @@
 -- THE PROMISES of records in a pool. Read this page first: each theorem is said in document 01's words, and its proof is one citation.
 -- What the words mean stands in Kinds, Words, Rows and Nodes, and in the calculus of reading. Assumes nothing.
-use Rattle.std.specs.Prelude.{◌≡◌, List, ◌++◌, map, ℕ, ◌+◌, ◌*◌, ◌≤◌, ◌<◌, length, get_or, drop}
+use Rattle.std.specs.Prelude.{◌≡◌, List, ◌++◌, map, ℕ, ◌+◌, ◌*◌, ◌≤◌, ◌<◌, length, get_or, drop, Result, Some}
 use Rattle.characters.specs.declared.place.Place.{Place}
+use Rattle.characters.specs.declared.refusal.Refused.{Refused}
+use Rattle.reading.specs.declared.node.Node.{Node}
 use Rattle.reading.specs.declared.tally.Tally.{Tally}
-use Rattle.reading.specs.declared.answer.Out.{Out}
-use Rattle.reading.specs.declared.answer.Got.{Got}
+use Rattle.reading.specs.Outs.{Out, out_at}
+use Rattle.reading.specs.Gots.{Got, got_of}
 use Rattle.reading.specs.Events.{Rec}
 use Rattle.reading.specs.Process.{node_as}
 use Rattle.reading.specs.Says.{laid, Makes, Compares}
 use Rattle.reading.proofs.Laws.Says as Says
+use Rattle.reading.proofs.Laws.Apart as Apart
 use Rattle.records.specs.declared.kind.Kind.{Kind}
-use Rattle.records.specs.declared.kind.KindAt.TheVariants.{Known}
 use Rattle.records.specs.declared.row.Row.{Row}
-use Rattle.records.specs.declared.row.RowAt.TheVariants.{Here}
 use Rattle.records.specs.Kinds.{number_of, kind_of}
 use Rattle.records.specs.Words.{span_word, span_of, low_of, high_of, whole_of}
 use Rattle.records.specs.Rows.{record_of, width, layout, rows_of, cap_of, Lent, row_at, rows_at}
@@ -24,7 +25,7 @@ use Rattle.records.proofs.Laws.Pools as Pools
 use Rattle.records.proofs.Laws.Nodes as Nodes
 
 -- KINDS. Each has one number, and a number stands for one kind at most.
-pub known : (k : Kind) → kind_of (number_of k) ≡ Known k
+pub known : (k : Kind) → kind_of (number_of k) ≡ Some k
 known k = Kinds.kind_number k
 
 pub kept_apart : (j k : Kind) → number_of j ≡ number_of k → j ≡ k
@@ -68,7 +69,7 @@ last pool made w h = Nodes.node_laid pool made w h
 
 -- ROWS AND RECORDS determine each other. Reading back what was laid gives the rows, in their order;
 pub back : (ws : List Row) (pool : List ℕ) (made : ℕ) → (made + length ws) * width ≤ length pool
-    → rows_at (laid layout pool made (map record_of ws)) made (length ws) ≡ map Here ws
+    → rows_at (laid layout pool made (map record_of ws)) made (length ws) ≡ map Some ws
 back ws pool made h = Rows.rows_back ws pool made h
 
 -- so two lists of rows that leave the same pool are one.
@@ -93,3 +94,20 @@ make_determined cap t p w r r' A B B' h k = Nodes.row_unique h k
 
 pub count_determined : (comps : ℕ) (t : Tally) (p : Place) (r r' : Out) → Compares comps t p r → Compares comps t p r' → r ≡ r'
 count_determined comps t p r r' h k = Says.compares_unique h k
+
+-- So of the code's answers: each leaves one `Result`, one tally, and one pool.
+pub put_once : (cap : ℕ) (t : Tally) (p : Place) (w : Row) (v : ℕ) (r r' : Result Node Refused) (u u' : Tally) (A B B' : List ℕ)
+    → Makes layout cap t p (record_of w) v (out_at p r u) A B
+    → Makes layout cap t p (record_of w) v (out_at p r' u') A B' → ((r ≡ r') × (u ≡ u')) × (B ≡ B')
+put_once cap t p w v r r' u u' A B B' h k =
+    let e = put_determined cap t p w v (out_at p r u) (out_at p r' u') A B B' h k in (Apart.out_one p r r' u u' e.0, e.1)
+
+pub make_once : (cap : ℕ) (t : Tally) (p : Place) (w : Row) (r r' : Result Place Refused) (u u' : Tally) (A B B' : List ℕ)
+    → MakesRow cap t p w (got_of r u) A B
+    → MakesRow cap t p w (got_of r' u') A B' → ((r ≡ r') × (u ≡ u')) × (B ≡ B')
+make_once cap t p w r r' u u' A B B' h k =
+    let e = make_determined cap t p w (got_of r u) (got_of r' u') A B B' h k in (Apart.got_one r r' u u' e.0, e.1)
+
+pub count_once : (comps : ℕ) (t : Tally) (p : Place) (r r' : Result Node Refused) (u u' : Tally) → Compares comps t p (out_at p r u)
+    → Compares comps t p (out_at p r' u') → (r ≡ r') × (u ≡ u')
+count_once comps t p r r' u u' h k = Apart.out_one p r r' u u' (count_determined comps t p (out_at p r u) (out_at p r' u') h k)

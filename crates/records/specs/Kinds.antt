@@ -1,10 +1,8 @@
 -- THE TABLE OF KINDS: each kind's number in a row, its name in the listing, and what each of its fields means. The writer of rows, their
 -- reader, the listing and docs/LISTING.md are held to it. Assumes nothing.
-use Rattle.std.specs.Prelude.{List, [], ◌∷◌, Bool, true, false, ℕ, get_or}
+use Rattle.std.specs.Prelude.{List, [], ◌∷◌, Bool, true, false, ℕ, get_or, None, Option, Some}
 use Rattle.records.specs.declared.kind.Kind.{Kind}
 use Rattle.records.specs.declared.kind.Kind.TheVariants.{True, False, Nil, Int, Float, String, Bytes, Array, Dict, Name, Host, Closure, Index, Member, InstanceOf, Unary, Binary, Choice, Call, Do, Assign, Return, Assert, Break, Continue, Block, If, For, Let, ClassDecl, Fun, Class, Item, Param, Pair, Global, Stated, Method}
-use Rattle.records.specs.declared.kind.KindAt.{KindAt}
-use Rattle.records.specs.declared.kind.KindAt.TheVariants.{Known, Unknown}
 
 -- What a field holds: the number of a record, or a plain word.
 pub data Meaning : Type 0 where
@@ -97,49 +95,49 @@ abbrev pub meaning_at : Kind → ℕ → Meaning
 meaning_at k i = get_or (shape k).fields i unused
 
 -- The kinds in the order of their numbers.
-abbrev pub kinds : List KindAt
+abbrev pub kinds : List (Option Kind)
 kinds =
-    Unknown
-    ∷ Known True
-    ∷ Known False
-    ∷ Known Nil
-    ∷ Known Int
-    ∷ Known Float
-    ∷ Known String
-    ∷ Known Bytes
-    ∷ Known Array
-    ∷ Known Dict
-    ∷ Known Name
-    ∷ Known Host
-    ∷ Known Closure
-    ∷ Known Index
-    ∷ Known Member
-    ∷ Known InstanceOf
-    ∷ Known Unary
-    ∷ Known Binary
-    ∷ Known Choice
-    ∷ Known Call
-    ∷ Known Do
-    ∷ Known Assign
-    ∷ Known Return
-    ∷ Known Assert
-    ∷ Known Break
-    ∷ Known Continue
-    ∷ Known Block
-    ∷ Known If
-    ∷ Known For
-    ∷ Known Let
-    ∷ Known ClassDecl
-    ∷ Known Fun
-    ∷ Known Class
-    ∷ Known Item
-    ∷ Known Param
-    ∷ Known Pair
-    ∷ Known Global
-    ∷ Known Stated
-    ∷ Known Method
+    None
+    ∷ Some True
+    ∷ Some False
+    ∷ Some Nil
+    ∷ Some Int
+    ∷ Some Float
+    ∷ Some String
+    ∷ Some Bytes
+    ∷ Some Array
+    ∷ Some Dict
+    ∷ Some Name
+    ∷ Some Host
+    ∷ Some Closure
+    ∷ Some Index
+    ∷ Some Member
+    ∷ Some InstanceOf
+    ∷ Some Unary
+    ∷ Some Binary
+    ∷ Some Choice
+    ∷ Some Call
+    ∷ Some Do
+    ∷ Some Assign
+    ∷ Some Return
+    ∷ Some Assert
+    ∷ Some Break
+    ∷ Some Continue
+    ∷ Some Block
+    ∷ Some If
+    ∷ Some For
+    ∷ Some Let
+    ∷ Some ClassDecl
+    ∷ Some Fun
+    ∷ Some Class
+    ∷ Some Item
+    ∷ Some Param
+    ∷ Some Pair
+    ∷ Some Global
+    ∷ Some Stated
+    ∷ Some Method
     ∷ []
 
 -- The kind that a number stands for.
-abbrev pub kind_of : ℕ → KindAt
-kind_of n = get_or kinds n Unknown
+abbrev pub kind_of : ℕ → Option Kind
+kind_of n = get_or kinds n None

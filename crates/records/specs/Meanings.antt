@@ -1,11 +1,9 @@
 -- WHAT FIELDS MEAN among the records made before: a field that the table calls an expression holds the number of an expression's record,
 -- and so on. Assumes nothing.
-use Rattle.std.specs.Prelude.{◌≡◌, List, [], ◌∷◌, ◌++◌, Bool, true, false, ◌&&◌, ℕ, zero, suc, ◌≤◌, T, leb, eqb, length}
+use Rattle.std.specs.Prelude.{◌≡◌, List, [], ◌∷◌, ◌++◌, Bool, true, false, ◌&&◌, ℕ, zero, suc, ◌≤◌, T, leb, eqb, length, None, Option, Some}
 use Rattle.reading.specs.Events.{Field, word, ref, Rec}
 use Rattle.records.specs.declared.kind.Kind.{Kind}
 use Rattle.records.specs.declared.kind.Kind.TheVariants as kinds
-use Rattle.records.specs.declared.kind.KindAt.{KindAt}
-use Rattle.records.specs.declared.kind.KindAt.TheVariants.{Known, Unknown}
 use Rattle.records.specs.Kinds.{Meaning, expression, statement, function, class, items, span, low, high, mark, operator, id, number, unused, is_reference, shape, number_of, kind_of}
 
 -- The kind of the record with this number, from 1 on; 0, which is no kind's, where there is none.
@@ -75,9 +73,9 @@ Each made (m ∷ ms) [] = ⊥
 Each made (m ∷ ms) (word k ∷ fs) = Word (is_reference m) (Each made ms fs)
 Each made (m ∷ ms) (ref k ∷ fs) = Refers made m k × Each made ms fs
 
-abbrev pub MeantBy : KindAt → List Rec → List Field → Type 0
-MeantBy (Known k) made fs = Each made (shape k).fields fs
-MeantBy Unknown made fs = ⊥
+abbrev pub MeantBy : Option Kind → List Rec → List Field → Type 0
+MeantBy (Some k) made fs = Each made (shape k).fields fs
+MeantBy None made fs = ⊥
 
 -- MEANT: a record is of a kind of the table, and each of its fields is what the table says, after these records.
 abbrev pub Meant : List Rec → Rec → Type 0

@@ -4,10 +4,9 @@ use Rattle.std.specs.Prelude.{◌≡◌, Bool, true, false, ◌&&◌, ◌||◌, 
 use Rattle.characters.specs.declared.place.Place.{Place}
 use Rattle.reading.specs.declared.node.Node.{Node}
 use Rattle.reading.specs.declared.tally.Tally.{Tally}
-use Rattle.reading.specs.declared.answer.Out.{Out}
-use Rattle.reading.specs.declared.answer.Out.TheVariants as out
-use Rattle.reading.specs.declared.answer.Got.{Got}
-use Rattle.reading.specs.declared.answer.Got.TheVariants.{Read, Refused}
+use Rattle.reading.specs.Outs.{Out}
+use Rattle.reading.specs.Outs as out
+use Rattle.reading.specs.Gots.{Got, Read, Refused}
 use Rattle.reading.specs.Says.{Makes}
 use Rattle.records.specs.declared.kind.Kind.{Kind}
 use Rattle.records.specs.declared.kind.Kind.TheVariants.{True, Bytes, Name, Host, Closure, Let, Fun, Class}

@@ -4,17 +4,13 @@
 -- Why so. A column reaches 65,538, so sixteen bits are too few for a word; a record's number, an id, a global number and a span of two
 -- offsets each fit in thirty-two. Eight is a power of two, so a row's place is a shift. Further fields of 02, a comment's span and a
 -- range, are one word each: they widen the row here, in `lay` and in `row_at`, and no contract above says how wide it is.
-use Rattle.std.specs.Prelude.{◌≡◌, List, [], ◌∷◌, ◌++◌, Bool, true, false, ◌&&◌, ℕ, zero, suc, ◌+◌, ◌-◌, ◌*◌, ◌/◌, min, ◌≤◌, leb, length, get_or}
+use Rattle.std.specs.Prelude.{◌≡◌, List, [], ◌∷◌, ◌++◌, Bool, true, false, ◌&&◌, ℕ, zero, suc, ◌+◌, ◌-◌, ◌*◌, ◌/◌, min, ◌≤◌, leb, length, get_or, None, Option, Some}
 use Rattle.std.proofs.lemmas.List.Edits.{sets}
 use Rattle.characters.specs.declared.place.Place.{Place}
 use Rattle.reading.specs.Events.{Field, word, ref, Rec}
 use Rattle.reading.specs.Says.{Layout}
 use Rattle.records.specs.declared.kind.Kind.{Kind}
-use Rattle.records.specs.declared.kind.KindAt.{KindAt}
-use Rattle.records.specs.declared.kind.KindAt.TheVariants.{Known, Unknown}
 use Rattle.records.specs.declared.row.Row.{Row}
-use Rattle.records.specs.declared.row.RowAt.{RowAt}
-use Rattle.records.specs.declared.row.RowAt.TheVariants.{Here, Nothing}
 use Rattle.records.specs.Kinds.{is_reference, number_of, meaning_at, kind_of}
 
 -- A field, by whether the table calls it a reference.
@@ -81,12 +77,12 @@ pub record Lays (made : ℕ) (w : Row) (r : ℕ) (before later : List ℕ) : Typ
   pub number : r ≡ number_of w.kind
   pub pool : later ≡ layout before made (record_of w)
 
-abbrev pub row_by : KindAt → Place → ℕ → ℕ → ℕ → ℕ → RowAt
-row_by (Known k) p a b c d = Here (record { kind = k; position = p; a = a; b = b; c = c; d = d })
-row_by Unknown p a b c d = Nothing
+abbrev pub row_by : Option Kind → Place → ℕ → ℕ → ℕ → ℕ → Option Row
+row_by (Some k) p a b c d = Some (record { kind = k; position = p; a = a; b = b; c = c; d = d })
+row_by None p a b c d = None
 
 -- The row whose words start here.
-abbrev pub row_from : List ℕ → ℕ → RowAt
+abbrev pub row_from : List ℕ → ℕ → Option Row
 row_from pool base =
     row_by (kind_of (get_or pool base 0))
     (record { offset = get_or pool (base + 1) 0; line = get_or pool (base + 2) 0; column = get_or pool (base + 3) 0 })
@@ -95,15 +91,15 @@ row_from pool base =
     (get_or pool (base + 6) 0)
     (get_or pool (base + 7) 0)
 
-abbrev pub row_if : Bool → RowAt → RowAt
+abbrev pub row_if : Bool → Option Row → Option Row
 row_if true w = w
-row_if false w = Nothing
+row_if false w = None
 
 -- The row of the record with this number, from 1 on, if the pool has so many.
-unfoldable pub row_at : List ℕ → ℕ → RowAt
+unfoldable pub row_at : List ℕ → ℕ → Option Row
 row_at pool number = row_if (leb 1 number && leb (number * width) (length pool)) (row_from pool (number * width - width))
 
 -- So many rows, after so many others.
-abbrev pub rows_at : List ℕ → ℕ → ℕ → List RowAt
+abbrev pub rows_at : List ℕ → ℕ → ℕ → List (Option Row)
 rows_at pool made zero = []
 rows_at pool made (suc n) = row_at pool (made + 1) ∷ rows_at pool (made + 1) n

@@ -4,11 +4,11 @@ ghost use Rattle.std.specs.Prelude.{◌≡◌, ◌+◌, ◌-◌, ◌^◌, ◌<�
 use reading::tally::Tally;
 
 // The id of a function.
-#[derive(Clone, Copy)]
+#[derive(Clone, Copy, Debug, PartialEq, Eq)]
 pub struct FunId(u32);
 
 // The id of a class.
-#[derive(Clone, Copy)]
+#[derive(Clone, Copy, Debug, PartialEq, Eq)]
 pub struct ClassId(u32);
 
 impl FunId {
@@ -23,12 +23,14 @@ impl FunId {
         let id = t.ids + 1;
         FunId(id)
     }
+}
 
-    // The number that a record holds.
-    pub fn number(self) -> u32
-        ensures { result ≡ self.0 }
-    {
-        self.0
+// The number that a record holds.
+impl From<FunId> for u32 {
+    ghost from_gives = { λ id number. number ≡ id.0 };
+
+    fn from(id: FunId) -> u32 {
+        id.0
     }
 }
 
@@ -44,11 +46,13 @@ impl ClassId {
         let id = t.ids + 1;
         ClassId(id)
     }
+}
 
-    // The number that a record holds.
-    pub fn number(self) -> u32
-        ensures { result ≡ self.0 }
-    {
-        self.0
+// The number that a record holds.
+impl From<ClassId> for u32 {
+    ghost from_gives = { λ id number. number ≡ id.0 };
+
+    fn from(id: ClassId) -> u32 {
+        id.0
     }
 }

@@ -1,109 +1,85 @@
 // The kinds of records.
-ghost use Rattle.std.specs.Prelude.{◌≡◌};
+ghost use Rattle.std.specs.Prelude.{◌≡◌, ok_or};
 ghost use Rattle.records.specs.Kinds.{number_of, kind_of};
 
-// Each kind, by the listing's name; the six last are all listed as `item`: an expression, a parameter's name, an expression with a
-// dictionary key, a statement with a global number, a statement without one, and a method's function.
-#[derive(Clone, Copy)]
+use std::error::Error;
+use std::fmt;
+
+// Each kind, by the listing's name, with the number that a row holds; the six last are all listed as `item`: an expression, a
+// parameter's name, an expression with a dictionary key, a statement with a global number, a statement without one, and a method's
+// function.
+#[derive(Clone, Copy, Debug, PartialEq, Eq)]
 pub enum Kind {
-    True,
-    False,
-    Nil,
-    Int,
-    Float,
-    String,
-    Bytes,
-    Array,
-    Dict,
-    Name,
-    Host,
-    Closure,
-    Index,
-    Member,
-    InstanceOf,
-    Unary,
-    Binary,
-    Choice,
-    Call,
-    Do,
-    Assign,
-    Return,
-    Assert,
-    Break,
-    Continue,
-    Block,
-    If,
-    For,
-    Let,
-    ClassDecl,
-    Fun,
-    Class,
-    Item,
-    Param,
-    Pair,
-    Global,
-    Stated,
-    Method,
+    True = 1,
+    False = 2,
+    Nil = 3,
+    Int = 4,
+    Float = 5,
+    String = 6,
+    Bytes = 7,
+    Array = 8,
+    Dict = 9,
+    Name = 10,
+    Host = 11,
+    Closure = 12,
+    Index = 13,
+    Member = 14,
+    InstanceOf = 15,
+    Unary = 16,
+    Binary = 17,
+    Choice = 18,
+    Call = 19,
+    Do = 20,
+    Assign = 21,
+    Return = 22,
+    Assert = 23,
+    Break = 24,
+    Continue = 25,
+    Block = 26,
+    If = 27,
+    For = 28,
+    Let = 29,
+    ClassDecl = 30,
+    Fun = 31,
+    Class = 32,
+    Item = 33,
+    Param = 34,
+    Pair = 35,
+    Global = 36,
+    Stated = 37,
+    Method = 38,
 }
 
-// What a number stands for.
-#[derive(Clone, Copy)]
-pub enum KindAt {
-    Known { kind: Kind },
-    Unknown,
+// A number that is no kind's.
+#[derive(Clone, Copy, Debug, PartialEq, Eq)]
+pub struct UnknownKind {
+    pub number: u32,
 }
 
-impl Kind {
-    // The number that a row holds.
-    pub fn number(self) -> u32
-        ensures { result ≡ number_of self }
-    {
-        match self {
-            Kind::True => 1,
-            Kind::False => 2,
-            Kind::Nil => 3,
-            Kind::Int => 4,
-            Kind::Float => 5,
-            Kind::String => 6,
-            Kind::Bytes => 7,
-            Kind::Array => 8,
-            Kind::Dict => 9,
-            Kind::Name => 10,
-            Kind::Host => 11,
-            Kind::Closure => 12,
-            Kind::Index => 13,
-            Kind::Member => 14,
-            Kind::InstanceOf => 15,
-            Kind::Unary => 16,
-            Kind::Binary => 17,
-            Kind::Choice => 18,
-            Kind::Call => 19,
-            Kind::Do => 20,
-            Kind::Assign => 21,
-            Kind::Return => 22,
-            Kind::Assert => 23,
-            Kind::Break => 24,
-            Kind::Continue => 25,
-            Kind::Block => 26,
-            Kind::If => 27,
-            Kind::For => 28,
-            Kind::Let => 29,
-            Kind::ClassDecl => 30,
-            Kind::Fun => 31,
-            Kind::Class => 32,
-            Kind::Item => 33,
-            Kind::Param => 34,
-            Kind::Pair => 35,
-            Kind::Global => 36,
-            Kind::Stated => 37,
-            Kind::Method => 38,
-        }
+impl fmt::Display for UnknownKind {
+    fn fmt<W: fmt::Write>(&self, f: &mut fmt::Formatter<W>) -> fmt::Result {
+        write!(f, "no kind has the number {}", self.number)
     }
+}
 
-    // The kind that a number stands for.
-    pub fn of(number: u32) -> KindAt
-        ensures { result ≡ kind_of number }
-    {
+impl Error for UnknownKind {}
+
+// The number that a row holds.
+impl From<Kind> for u32 {
+    ghost from_gives = { λ kind number. number ≡ number_of kind };
+
+    fn from(kind: Kind) -> u32 {
+        kind as u32
+    }
+}
+
+// The kind that a number stands for, if it is one's.
+impl TryFrom<u32> for Kind {
+    type Error = UnknownKind;
+
+    ghost try_from_gives = { λ number result. result ≡ ok_or (kind_of number) (record { number = number }) };
+
+    fn try_from(number: u32) -> Result<Self, UnknownKind> {
         let kind = match number {
             1 => Kind::True,
             2 => Kind::False,
@@ -143,8 +119,8 @@ impl Kind {
             36 => Kind::Global,
             37 => Kind::Stated,
             38 => Kind::Method,
-            _ => return KindAt::Unknown,
+            _ => return Err(UnknownKind { number }),
         };
-        KindAt::Known { kind }
+        Ok(kind)
     }
 }

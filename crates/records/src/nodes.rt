@@ -1,67 +1,10 @@
-// Nodes: a record is made by its row, and what its node says is read there again.
-ghost use Rattle.std.specs.Prelude.{◌≡◌, ◌≤◌, ◌<◌};
+// Nodes: what a record's node says is read in its row again.
+ghost use Rattle.std.specs.Prelude.{◌≡◌, ◌<◌};
 ghost use Rattle.records.specs.Words.{whole_of};
-ghost use Rattle.records.specs.Rows.{Lent};
-ghost use Rattle.records.specs.Nodes.{Stored, word_at, kind_at, place_at, held_at, before_at, MakesRow, row_like};
+ghost use Rattle.records.specs.Nodes.{Stored, word_at, kind_at, place_at, held_at, before_at};
 
-use crate::kind::Kind;
-use crate::pool::lay;
-use crate::row::Row;
 use crate::words::whole;
 use characters::place::Place;
-use characters::refusal::Refusal;
-use reading::answer::Got;
-use reading::tally::Tally;
-
-// The next record, when `at` is reached; or 6 there, where the limit has no room for it.
-pub fn make(pool: &mut [u32], cap: u32, t: Tally, at: Place, row: Row) -> Got
-    requires { Lent pool.old cap }
-    ensures { MakesRow cap t at row result pool.old pool.new }
-{
-    let made = t.records;
-    if made < cap {
-        lay(pool, made, row);
-        let records = made + 1;
-        let tally = Tally {
-            records,
-            comparisons: t.comparisons,
-            ids: t.ids,
-        };
-        return Got::Read { at, tally };
-    }
-    Got::Refused {
-        refusal: Refusal::PoolFull,
-        at,
-        tally: t,
-    }
-}
-
-// The same at the position of the record `like`.
-pub fn make_like(
-    pool: &mut [u32],
-    cap: u32,
-    t: Tally,
-    at: Place,
-    kind: Kind,
-    like: u32,
-    a: u32,
-    b: u32,
-    c: u32,
-) -> Got
-    requires { (Lent pool.old cap) × (1 ≤ like) × (like ≤ cap) }
-    ensures { MakesRow cap t at (row_like pool.old kind like a b c) result pool.old pool.new }
-{
-    let position = position_of(pool, like);
-    let row = Row {
-        kind,
-        position,
-        a,
-        b,
-        c,
-        d: 0,
-    };
-    make(pool, cap, t, at, row)
-}
 
 // A word of a record's row.
 pub fn word_of(pool: &[u32], number: u32, i: usize) -> u32

@@ -1,14 +1,14 @@
 // The pool: rows of eight words, one after the other, in a buffer that the caller lends.
 ghost use Rattle.std.specs.Prelude.{◌≡◌, ◌+◌, ◌*◌, ◌≤◌, length};
+ghost use Rattle.reading.specs.Outs.{out_at};
 ghost use Rattle.reading.specs.Says.{Makes};
 ghost use Rattle.records.specs.Kinds.{number_of};
 ghost use Rattle.records.specs.Rows.{record_of, layout, row_at, cap_of, Lent, Lays};
 
-use crate::kind::{Kind, KindAt};
-use crate::row::{Row, RowAt};
+use crate::kind::Kind;
+use crate::row::Row;
 use characters::place::Place;
-use characters::refusal::Refusal;
-use reading::answer::Out;
+use characters::refusal::{Refusal, Refused};
 use reading::node::Node;
 use reading::tally::Tally;
 
@@ -26,7 +26,7 @@ pub fn lay(pool: &mut [u32], made: u32, row: Row) -> u32
     ensures { Lays made row result pool.old pool.new }
 {
     let kind = row.kind;
-    let number = kind.number();
+    let number = u32::from(kind);
     let position = row.position;
     let base = (made as usize) * 8;
     pool[base] = number;
@@ -41,65 +41,59 @@ pub fn lay(pool: &mut [u32], made: u32, row: Row) -> u32
 }
 
 // The next record, when `at` is reached; or 6 there, where the limit has no room for it.
-pub fn put(pool: &mut [u32], cap: u32, t: Tally, at: Place, row: Row, value: u64) -> Out
+pub fn put(
+    pool: &mut [u32],
+    cap: u32,
+    tally: &mut Tally,
+    at: Place,
+    row: Row,
+    value: u64,
+) -> Result<Node, Refused>
     requires { Lent pool.old cap }
-    ensures { Makes layout cap t at (record_of row) value result pool.old pool.new }
+    ensures { Makes layout cap tally.old at (record_of row) value (out_at at result tally.new) pool.old pool.new }
 {
-    let made = t.records;
+    let made = tally.records;
     if made < cap {
         let kind = lay(pool, made, row);
-        let position = row.position;
         let number = made + 1;
-        let node = Node {
+        tally.records = number;
+        return Ok(Node {
             number,
             kind,
-            position,
+            position: row.position,
             value,
-        };
-        let tally = Tally {
-            records: number,
-            comparisons: t.comparisons,
-            ids: t.ids,
-        };
-        return Out::Read { at, node, tally };
+        });
     }
-    Out::Refused {
+    Err(Refused {
         refusal: Refusal::PoolFull,
         at,
-        tally: t,
-    }
+    })
 }
 
 // The row of the record with this number; nothing where the pool has no such row, or where its kind is none.
-pub fn row_at(pool: &[u32], number: u32) -> RowAt
+pub fn row_at(pool: &[u32], number: u32) -> Option<Row>
     ensures { result ≡ row_at pool.now number }
 {
     if number == 0 {
-        return RowAt::Nothing;
+        return None;
     }
     let end = (number as usize) * 8;
     if pool.len() < end {
-        return RowAt::Nothing;
+        return None;
     }
     let base = end - 8;
-    let found = Kind::of(pool[base]);
-    match found {
-        KindAt::Unknown => RowAt::Nothing,
-        KindAt::Known { kind } => {
-            let position = Place {
-                offset: pool[base + 1],
-                line: pool[base + 2],
-                column: pool[base + 3],
-            };
-            let row = Row {
-                kind,
-                position,
-                a: pool[base + 4],
-                b: pool[base + 5],
-                c: pool[base + 6],
-                d: pool[base + 7],
-            };
-            RowAt::Here { row }
-        }
-    }
+    let kind = Kind::try_from(pool[base]).ok()?;
+    let position = Place {
+        offset: pool[base + 1],
+        line: pool[base + 2],
+        column: pool[base + 3],
+    };
+    Some(Row {
+        kind,
+        position,
+        a: pool[base + 4],
+        b: pool[base + 5],
+        c: pool[base + 6],
+        d: pool[base + 7],
+    })
 }

@@ -3,7 +3,7 @@ use crate::kind::Kind;
 use characters::place::Place;
 
 // Its kind, its position and its four fields. specs/Kinds.antt says what each field means; one that a kind doesn't use is 0.
-#[derive(Clone, Copy)]
+#[derive(Clone, Copy, Debug, PartialEq, Eq)]
 pub struct Row {
     pub kind: Kind,
     pub position: Place,
@@ -11,11 +11,4 @@ pub struct Row {
     pub b: u32,
     pub c: u32,
     pub d: u32,
-}
-
-// What stands in the pool under a number.
-#[derive(Clone, Copy)]
-pub enum RowAt {
-    Here { row: Row },
-    Nothing,
 }

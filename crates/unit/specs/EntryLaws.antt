@@ -13,7 +13,7 @@ use Rattle.characters.specs.Text.{Text}
 use Rattle.characters.specs.Refusals.{number_of}
 use Rattle.characters.specs.Utf8.{well_formed, prefix_place}
 use Rattle.reading.specs.declared.answer.Answer.{Answer}
-use Rattle.reading.specs.declared.answer.Out.{Out}
+use Rattle.reading.specs.Outs.{Out}
 use Rattle.reading.specs.Events.{Rec, Which, End, Done, Stop, Crossed, Spent, Outcome, ended, records_of, comparisons_of, start}
 use Rattle.reading.specs.Limits.{Limits, limited, cut}
 use Rattle.reading.specs.Process.{reading, unlimited}

@@ -1,52 +1,49 @@
 -- THE LEAVES REFUSE PROPERLY: what a leaf refuses by is a rule's to give. By cases, along the definition of each. The
 -- comments name the refusals; the theorems say only that they are proper. Assumes nothing.
-use Rattle.std.specs.Prelude.{Bool, true, false, ◌&&◌, ◌||◌, not, [], ◌∷◌, ℕ, zero, suc, ◌+◌, ◌-◌, ◌*◌, T, leb, ltb, eqb, drop}
+use Rattle.std.specs.Prelude.{Bool, true, false, ◌&&◌, ◌||◌, not, [], ◌∷◌, ℕ, zero, suc, ◌+◌, ◌-◌, ◌*◌, T, leb, ltb, eqb, drop, Err, Ok, Result}
 use Rattle.characters.specs.declared.place.Place.{Place}
 use Rattle.characters.specs.declared.refusal.Refusal.{Refusal}
 use Rattle.characters.specs.declared.refusal.Refusal.TheVariants.{ExpectedDigit, NoExponentDigits, BadStringEscape}
-use Rattle.characters.specs.declared.tokens.Look.{Look}
-use Rattle.characters.specs.declared.tokens.Look.TheVariants.{Found, Missing, Halted}
-use Rattle.characters.specs.declared.tokens.Must.{Must}
-use Rattle.characters.specs.declared.tokens.Must.TheVariants.{Taken, Failed}
 use Rattle.characters.specs.Text.{Text, byte_at, ascii, on_by, past}
 use Rattle.characters.specs.Blanks.{is_blank, begins, Mode, between, line, block, passing, out, pass, blanks}
 use Rattle.characters.specs.Names.{is_digit, is_letter, name_by, name, part, word_of}
 use Rattle.characters.specs.Tokens.{found_by, is_token, is_keyword, token_past, token, needed, expected}
-use Rattle.literals.specs.declared.numbers.Numeral.{Numeral}
-use Rattle.literals.specs.declared.numbers.Numeral.TheVariants.{Int, Float, Bad}
-use Rattle.literals.specs.declared.numbers.Run.{Run}
-use Rattle.literals.specs.declared.numbers.Run.TheVariants.{Digits, Broken}
+use Rattle.literals.specs.declared.numbers.Numeral.TheVariants.{Int, Float}
 use Rattle.literals.specs.Numbers.{digit_of, is_digit_in, reaches, run, digits, most, whole, whole_of, float_of, based, signed, exponent, exponent_or, past_fraction, fraction, dotted, past_digits, decimal_of, decimal, number}
 use Rattle.literals.specs.NumberLaws.{choice}
-use Rattle.literals.specs.declared.strings.Escaped.{Escaped}
-use Rattle.literals.specs.declared.strings.Escaped.TheVariants.{Means, Short, NotHex, Unknown}
 use Rattle.literals.specs.Strings.{is_quote, letter_of, escape, strayed, scan, string_by, string}
 use Rattle.literals.specs.declared.bytearrays.Mode.{Mode as Within}
 use Rattle.literals.specs.declared.bytearrays.Mode.TheVariants.{Between, Ascii, Hex, Binary}
-use Rattle.literals.specs.declared.bytearrays.Seen.{Seen}
-use Rattle.literals.specs.declared.bytearrays.Seen.TheVariants.{Byte, Opened, Shut, Refused}
+use Rattle.literals.specs.declared.bytearrays.Seen.TheVariants.{Byte, Opened, Shut}
 use Rattle.literals.specs.ByteArrays as bytes
 use Rattle.reading.specs.Suits.{proper}
-use Rattle.grammar.specs.declared.leaves.Prefix.{Prefix}
 use Rattle.grammar.specs.declared.leaves.Prefix.TheVariants as prefix
-use Rattle.grammar.specs.declared.leaves.Atom.{Atom}
 use Rattle.grammar.specs.declared.leaves.Atom.TheVariants as atom
-use Rattle.grammar.specs.declared.leaves.Postfix.{Postfix}
 use Rattle.grammar.specs.declared.leaves.Postfix.TheVariants as post
 use Rattle.records.specs.declared.kind.Kind.{Kind}
 use Rattle.records.specs.declared.kind.Kind.TheVariants as kinds
 use Rattle.grammar.specs.Leaves.{prefix_by, prefix_past, prefix_of, number_atom, span_atom, word_atom, name_atom, atom_of, member_by, instance_by, instance_past, postfix_by, postfix_past, postfix_of, close_past, close_of, comma_by, follow_by, follow_of, key_at}
+use Rattle.characters.specs.Answers.{Looked, Must, failed, found, missing}
+use Rattle.characters.specs.declared.refusal.Refused.{Refused}
+use Rattle.grammar.specs.declared.leaves.Atom.{Atom}
+use Rattle.grammar.specs.declared.leaves.Postfix.{Postfix}
+use Rattle.grammar.specs.declared.leaves.Prefix.{Prefix}
+use Rattle.literals.specs.declared.bytearrays.Seen.{Seen}
+use Rattle.literals.specs.declared.numbers.Digits.{Digits}
+use Rattle.literals.specs.declared.numbers.Numeral.{Numeral}
+use Rattle.literals.specs.declared.strings.BadEscape.{BadEscape}
+use Rattle.literals.specs.declared.strings.Escaped.{Escaped}
 
 -- What has to be there is there, or is refused properly.
 abbrev pub MustProper : Must → Type 0
-MustProper (Taken h q) = Unit {0}
-MustProper (Failed k q) = T (proper k)
+MustProper (Ok t) = Unit {0}
+MustProper (Err e) = T (proper e.refusal)
 
 -- What may be there is there, or is not, or is refused properly.
-abbrev pub LookProper : Look → Type 0
-LookProper (Found h q) = Unit {0}
-LookProper (Missing h) = Unit {0}
-LookProper (Halted k q) = T (proper k)
+abbrev pub LookProper : Looked → Type 0
+LookProper (found h q) = Unit {0}
+LookProper (missing h) = Unit {0}
+LookProper (Err e) = T (proper e.refusal)
 
 -- ---- blanks, names and tokens
 
@@ -91,31 +88,31 @@ token_proper s p w = go (blanks s p) (blanks_proper s p)
     by false q n = tt
 
     go : (r : Must) → MustProper r → LookProper (token_past s w r)
-    go (Taken a q) g = by (is_token s q w) q _
-    go (Failed k q) g = g
+    go (Ok t) g = by (is_token s t.next w) t.next _
+    go (Err e) g = g
 
 -- And one that is expected, by 10.
 pub expected_proper : (s : Text) (p : Place) (w : Text) → MustProper (expected s p w)
 unfolding expected
 expected_proper s p w = go (token s p w) (token_proper s p w)
   where
-    go : (l : Look) → LookProper l → MustProper (needed l)
-    go (Found h n) g = tt
-    go (Missing h) g = tt
-    go (Halted k q) g = g
+    go : (l : Looked) → LookProper l → MustProper (needed l)
+    go (found h n) g = tt
+    go (missing h) g = tt
+    go (Err e) g = g
 
 -- ---- numbers
 
 -- A run of digits is whole, or is refused properly.
-abbrev RunProper : Run → Type 0
-RunProper (Digits v q) = Unit {0}
-RunProper (Broken k q) = T (proper k)
+abbrev RunProper : Result Digits Refused → Type 0
+RunProper (Ok t) = Unit {0}
+RunProper (Err e) = T (proper e.refusal)
 
 -- A number is read, or is refused properly.
-abbrev pub NumeralProper : Numeral → Type 0
-NumeralProper (Int v q) = Unit {0}
-NumeralProper (Float q) = Unit {0}
-NumeralProper (Bad k q) = T (proper k)
+abbrev pub NumeralProper : Result Numeral Refused → Type 0
+NumeralProper (Ok (Int v q)) = Unit {0}
+NumeralProper (Ok (Float q)) = Unit {0}
+NumeralProper (Err e) = T (proper e.refusal)
 
 -- A run of digits is refused by 15 or 17.
 run_proper : (limited : Bool) (radix v : ℕ) (l : Text) (p : Place) → RunProper (run limited radix v l p)
@@ -138,14 +135,14 @@ unfolding whole
 whole_proper v q = choice NumeralProper (leb v most) (λ e. tt) (λ e. tt)
 
 -- So is one of a run.
-whole_of_proper : (r : Run) → RunProper r → NumeralProper (whole_of r)
-whole_of_proper (Digits v q) h = whole_proper v q
-whole_of_proper (Broken k q) h = h
+whole_of_proper : (r : Result Digits Refused) → RunProper r → NumeralProper (whole_of r)
+whole_of_proper (Ok t) h = whole_proper t.value t.next
+whole_of_proper (Err e) h = h
 
 -- A float is refused as its run is.
-float_of_proper : (r : Run) → RunProper r → NumeralProper (float_of r)
-float_of_proper (Digits v q) h = tt
-float_of_proper (Broken k q) h = h
+float_of_proper : (r : Result Digits Refused) → RunProper r → NumeralProper (float_of r)
+float_of_proper (Ok t) h = tt
+float_of_proper (Err e) h = h
 
 -- A number to another base is refused by 14 to 17.
 based_proper : (radix : ℕ) (s : Text) (p : Place) → NumeralProper (based radix s p)
@@ -153,7 +150,7 @@ unfolding based
 based_proper radix s p = whole_of_proper (digits true ExpectedDigit radix s p) (digits_proper true ExpectedDigit radix s p tt)
 
 -- An exponent is refused by 17 or 18; where there is none, the number is as it was.
-exponent_or_proper : (s : Text) (p : Place) (plain : Numeral) → NumeralProper plain → NumeralProper (exponent_or s p plain)
+exponent_or_proper : (s : Text) (p : Place) (plain : Result Numeral Refused) → NumeralProper plain → NumeralProper (exponent_or s p plain)
 unfolding exponent_or exponent
 exponent_or_proper s p plain h =
     choice NumeralProper (eqb (byte_at s p.offset) 101 || eqb (byte_at s p.offset) 69)
@@ -165,9 +162,9 @@ fraction_proper : (s : Text) (p : Place) → NumeralProper (fraction s p)
 unfolding fraction
 fraction_proper s p = go (digits false ExpectedDigit 10 s p) (digits_proper false ExpectedDigit 10 s p tt)
   where
-    go : (r : Run) → RunProper r → NumeralProper (past_fraction s r)
-    go (Digits v q) h = exponent_or_proper s q (Float q) tt
-    go (Broken k q) h = h
+    go : (r : Result Digits Refused) → RunProper r → NumeralProper (past_fraction s r)
+    go (Ok t) h = exponent_or_proper s t.next (Ok (Float t.next)) tt
+    go (Err e) h = h
 
 -- What follows the first digits is refused by 14 or 16 to 18.
 past_digits_proper : (s : Text) (v : ℕ) (p : Place) → NumeralProper (past_digits s v p)
@@ -183,9 +180,9 @@ decimal_proper : (s : Text) (p : Place) → NumeralProper (decimal s p)
 unfolding decimal
 decimal_proper s p = go (digits false ExpectedDigit 10 s p) (digits_proper false ExpectedDigit 10 s p tt)
   where
-    go : (r : Run) → RunProper r → NumeralProper (decimal_of s r)
-    go (Digits v q) h = past_digits_proper s v q
-    go (Broken k q) h = h
+    go : (r : Result Digits Refused) → RunProper r → NumeralProper (decimal_of s r)
+    go (Ok t) h = past_digits_proper s t.value t.next
+    go (Err e) h = h
 
 -- A number is refused by 14 to 18.
 pub number_proper : (s : Text) (p : Place) → NumeralProper (number s p)
@@ -206,12 +203,10 @@ scan_proper s at q (b ∷ t) zero p =
     choice MustProper (eqb b q) (λ e. tt)
     (λ e. choice MustProper (eqb b 92) (λ e. go (escape s (p.offset + 1)) (λ n r. scan_proper s at q t n r)) (λ e. scan_proper s at q t zero (past b p)))
   where
-    go : (x : Escaped) → ((n : ℕ) (r : Place) → MustProper (scan s at q n t r))
-        → MustProper (elim x as (λ w. Must) [ Means v n ↦ scan s at q n t (on_by (1 + n) p) | Short n ↦ Failed BadStringEscape (strayed s (on_by 1 p) (Short n)) | NotHex ↦ Failed BadStringEscape (strayed s (on_by 1 p) NotHex) | Unknown ↦ Failed BadStringEscape (strayed s (on_by 1 p) Unknown) ])
-    go (Means v n) ih = ih n (on_by (1 + n) p)
-    go (Short n) ih = tt
-    go NotHex ih = tt
-    go Unknown ih = tt
+    go : (x : Result Escaped BadEscape) → ((n : ℕ) (r : Place) → MustProper (scan s at q n t r))
+        → MustProper (elim x as (λ w. Must) [ Ok x ↦ scan s at q x.width t (on_by (1 + x.width) p) | Err e ↦ failed BadStringEscape (strayed s (on_by 1 p) e) ])
+    go (Ok x) ih = ih x.width (on_by (1 + x.width) p)
+    go (Err e) ih = tt
 scan_proper s at q (b ∷ t) (suc left) p = scan_proper s at q t left p
 
 -- So is a string.
@@ -226,11 +221,11 @@ string_proper s p = go (drop p.offset s)
 -- ---- bytearrays
 
 -- A step of a bytearray goes on, or is refused properly.
-abbrev SeenProper : Seen → Type 0
-SeenProper (Byte v n q) = Unit {0}
-SeenProper (Opened n q) = Unit {0}
-SeenProper (Shut q) = Unit {0}
-SeenProper (Refused k q) = T (proper k)
+abbrev SeenProper : Result Seen Refused → Type 0
+SeenProper (Ok (Byte v n q)) = Unit {0}
+SeenProper (Ok (Opened n q)) = Unit {0}
+SeenProper (Ok (Shut q)) = Unit {0}
+SeenProper (Err e) = T (proper e.refusal)
 
 -- Between runs: 19 or 21.
 outside_proper : (s : Text) (p : Place) → SeenProper (bytes.outside s p)
@@ -249,9 +244,9 @@ outside_proper s p =
     c = byte_at s (p.offset + 1)
 
 -- Past the blanks: as they are, or as what follows them is.
-past_proper : (f : Place → Seen) → ((q : Place) → SeenProper (f q)) → (r : Must) → MustProper r → SeenProper (bytes.past_blanks f r)
-past_proper f h (Taken a q) g = h q
-past_proper f h (Failed k q) g = g
+past_proper : (f : Place → Result Seen Refused) → ((q : Place) → SeenProper (f q)) → (r : Must) → MustProper r → SeenProper (bytes.past_blanks f r)
+past_proper f h (Ok t) g = h t.next
+past_proper f h (Err e) g = g
 
 -- Past the blanks between runs: 19 or 21.
 between_proper : (s : Text) (p : Place) → SeenProper (bytes.between s p)
@@ -323,12 +318,12 @@ unfolding bytes.read
 read_proper s [] left m last p = tt
 read_proper s (b ∷ t) zero m last p = go (bytes.step s m last p) (step_proper s m last p) (λ left n v q. read_proper s t left n v q)
   where
-    go : (r : Seen) → SeenProper r → ((left : ℕ) (n : Within) (v : ℕ) (q : Place) → ContentsProper (bytes.read s left t n v q))
-        → ContentsProper (elim r as (λ u. bytes.Contents) [ Byte v n q ↦ bytes.push v (bytes.read s (q.offset - (p.offset + 1)) t n v q) | Opened n q ↦ bytes.read s (q.offset - (p.offset + 1)) t n last q | Shut q ↦ bytes.shut q [] | Refused k q ↦ bytes.halted k q ])
-    go (Byte v n q) h ih = push_proper v (bytes.read s (q.offset - (p.offset + 1)) t n v q) (ih (q.offset - (p.offset + 1)) n v q)
-    go (Opened n q) h ih = ih (q.offset - (p.offset + 1)) n last q
-    go (Shut q) h ih = tt
-    go (Refused k q) h ih = h
+    go : (r : Result Seen Refused) → SeenProper r → ((left : ℕ) (n : Within) (v : ℕ) (q : Place) → ContentsProper (bytes.read s left t n v q))
+        → ContentsProper (elim r as (λ u. bytes.Contents) [ Ok (Byte v n q) ↦ bytes.push v (bytes.read s (q.offset - (p.offset + 1)) t n v q) | Ok (Opened n q) ↦ bytes.read s (q.offset - (p.offset + 1)) t n last q | Ok (Shut q) ↦ bytes.shut q [] | Err e ↦ bytes.halted e.refusal e.at ])
+    go (Ok (Byte v n q)) h ih = push_proper v (bytes.read s (q.offset - (p.offset + 1)) t n v q) (ih (q.offset - (p.offset + 1)) n v q)
+    go (Ok (Opened n q)) h ih = ih (q.offset - (p.offset + 1)) n last q
+    go (Ok (Shut q)) h ih = tt
+    go (Err e) h ih = h
 read_proper s (b ∷ t) (suc left) m last p = read_proper s t left m last p
 
 -- A bytearray is refused by 19 or 21.
@@ -343,10 +338,10 @@ bytearray_proper s p = go (bytes.contents s p) (read_proper s (drop p.offset s) 
 -- ---- the leaves
 
 -- A prefix is told, or is refused properly.
-abbrev pub PrefixProper : Prefix → Type 0
-PrefixProper (prefix.Sign sign h n) = Unit {0}
-PrefixProper (prefix.Other h) = Unit {0}
-PrefixProper (prefix.Wrong k q) = T (proper k)
+abbrev pub PrefixProper : Result Prefix Refused → Type 0
+PrefixProper (Ok (prefix.Sign sign h n)) = Unit {0}
+PrefixProper (Ok (prefix.Other h)) = Unit {0}
+PrefixProper (Err e) = T (proper e.refusal)
 
 -- A prefix is refused by 19 or 23.
 pub prefix_proper : (s : Text) (p : Place) → PrefixProper (prefix_of s p)
@@ -359,28 +354,28 @@ prefix_proper s p = go (blanks s p) (blanks_proper s p)
         (λ e. choice PrefixProper (eqb b 33 || eqb b 45 || eqb b 43) (λ e. tt) (λ e. tt))
 
     go : (r : Must) → MustProper r → PrefixProper (prefix_past s r)
-    go (Taken m h) g = by (byte_at s h.offset) (byte_at s (h.offset + 1)) h
-    go (Failed k q) g = g
+    go (Ok t) g = by (byte_at s t.next.offset) (byte_at s (t.next.offset + 1)) t.next
+    go (Err e) g = g
 
 -- An atom is told, or is refused properly.
-abbrev pub AtomProper : Atom → Type 0
-AtomProper (atom.Leaf kind v n) = Unit {0}
-AtomProper (atom.Paren n) = Unit {0}
-AtomProper (atom.Bracket n) = Unit {0}
-AtomProper (atom.Brace n) = Unit {0}
-AtomProper atom.Bar = Unit {0}
-AtomProper (atom.Wrong k q) = T (proper k)
+abbrev pub AtomProper : Result Atom Refused → Type 0
+AtomProper (Ok (atom.Leaf kind v n)) = Unit {0}
+AtomProper (Ok (atom.Paren n)) = Unit {0}
+AtomProper (Ok (atom.Bracket n)) = Unit {0}
+AtomProper (Ok (atom.Brace n)) = Unit {0}
+AtomProper (Ok atom.Bar) = Unit {0}
+AtomProper (Err e) = T (proper e.refusal)
 
 -- A number is refused as an atom as it is by itself.
-number_atom_proper : (h : Place) (x : Numeral) → NumeralProper x → AtomProper (number_atom h x)
-number_atom_proper h (Int v q) g = tt
-number_atom_proper h (Float q) g = tt
-number_atom_proper h (Bad k q) g = g
+number_atom_proper : (h : Place) (x : Result Numeral Refused) → NumeralProper x → AtomProper (number_atom h x)
+number_atom_proper h (Ok (Int v q)) g = tt
+number_atom_proper h (Ok (Float q)) g = tt
+number_atom_proper h (Err e) g = g
 
 -- So is what is a span of the text.
 span_atom_proper : (kind : Kind) (from : ℕ) (r : Must) → MustProper r → AtomProper (span_atom kind from r)
-span_atom_proper kind from (Taken a q) g = tt
-span_atom_proper kind from (Failed k q) g = g
+span_atom_proper kind from (Ok t) g = tt
+span_atom_proper kind from (Err e) g = g
 
 -- A word is refused by 12.
 word_atom_proper : (k : ℕ) (h q : Place) → AtomProper (word_atom k h q)
@@ -391,8 +386,8 @@ word_atom_proper k h q =
 
 -- A name is refused by 11 or 12.
 name_atom_proper : (s : Text) (r : Must) → MustProper r → AtomProper (name_atom s r)
-name_atom_proper s (Taken h q) g = word_atom_proper (word_of (part s h.offset q.offset)) h q
-name_atom_proper s (Failed k q) g = g
+name_atom_proper s (Ok t) g = word_atom_proper (word_of (part s t.here.offset t.next.offset)) t.here t.next
+name_atom_proper s (Err e) g = g
 
 -- An atom is refused by 13, or as what it is.
 pub atom_proper : (s : Text) (h : Place) → AtomProper (atom_of s h)
@@ -413,25 +408,25 @@ atom_proper s h =
     b = byte_at s h.offset
 
 -- What follows a base is told, or is refused properly.
-abbrev pub PostfixProper : Postfix → Type 0
-PostfixProper (post.More x) = Unit {0}
-PostfixProper (post.Rest h) = Unit {0}
-PostfixProper (post.Wrong k q) = T (proper k)
+abbrev pub PostfixProper : Result Postfix Refused → Type 0
+PostfixProper (Ok (post.More x)) = Unit {0}
+PostfixProper (Ok (post.Rest h)) = Unit {0}
+PostfixProper (Err e) = T (proper e.refusal)
 
 -- A member is refused as its name is.
 member_proper : (h : Place) (r : Must) → MustProper r → PostfixProper (member_by h r)
-member_proper h (Taken n q) g = tt
-member_proper h (Failed k q) g = g
+member_proper h (Ok t) g = tt
+member_proper h (Err e) g = g
 
 -- So is a class.
 class_proper : (h : Place) (r : Must) → MustProper r → PostfixProper (instance_by h r)
-class_proper h (Taken n q) g = tt
-class_proper h (Failed k q) g = g
+class_proper h (Ok t) g = tt
+class_proper h (Err e) g = g
 
 -- And the blanks before it.
 instance_proper : (s : Text) (h : Place) (r : Must) → MustProper r → PostfixProper (instance_past s h r)
-instance_proper s h (Taken p n) g = class_proper h (name s n) (name_proper s n)
-instance_proper s h (Failed k q) g = g
+instance_proper s h (Ok t) g = class_proper h (name s t.next) (name_proper s t.next)
+instance_proper s h (Err e) g = g
 
 -- What follows a base is refused by 11, 19 or 22.
 pub postfix_proper : (s : Text) (p : Place) → PostfixProper (postfix_of s p)
@@ -447,8 +442,8 @@ postfix_proper s p = go (blanks s p) (blanks_proper s p)
         (λ e. choice PostfixProper ((eqb b 43 && eqb c 43) || (eqb b 45 && eqb c 45)) (λ e. tt) (λ e. tt)))))
 
     go : (r : Must) → MustProper r → PostfixProper (postfix_past s r)
-    go (Taken m h) g = by (byte_at s h.offset) (byte_at s (h.offset + 1)) h
-    go (Failed k q) g = g
+    go (Ok t) g = by (byte_at s t.next.offset) (byte_at s (t.next.offset + 1)) t.next
+    go (Err e) g = g
 
 -- The close of a list is refused by 19.
 pub close_proper : (s : Text) (p : Place) (end : ℕ) → LookProper (close_of s p end)
@@ -456,8 +451,8 @@ unfolding close_of
 close_proper s p end = go (blanks s p) (blanks_proper s p)
   where
     go : (r : Must) → MustProper r → LookProper (close_past s end r)
-    go (Taken m h) g = choice LookProper (eqb (byte_at s h.offset) 256) (λ e. tt) (λ e. choice LookProper (eqb (byte_at s h.offset) end) (λ e. tt) (λ e. tt))
-    go (Failed k q) g = g
+    go (Ok t) g = choice LookProper (eqb (byte_at s t.next.offset) 256) (λ e. tt) (λ e. choice LookProper (eqb (byte_at s t.next.offset) end) (λ e. tt) (λ e. tt))
+    go (Err e) g = g
 
 -- What follows an element is refused by 10 or 19.
 pub follow_proper : (s : Text) (p : Place) (end : ℕ) → LookProper (follow_of s p end)
@@ -465,13 +460,13 @@ unfolding follow_of
 follow_proper s p end = go (token s p (end ∷ [])) (token_proper s p (end ∷ []))
   where
     comma : (r : Must) → MustProper r → LookProper (comma_by r)
-    comma (Taken h n) g = tt
-    comma (Failed k q) g = g
+    comma (Ok t) g = tt
+    comma (Err e) g = g
 
-    go : (l : Look) → LookProper l → LookProper (follow_by s l)
-    go (Found h n) g = tt
-    go (Missing h) g = comma (expected s h (ascii ",")) (expected_proper s h (ascii ","))
-    go (Halted k q) g = g
+    go : (l : Looked) → LookProper l → LookProper (follow_by s l)
+    go (found h n) g = tt
+    go (missing h) g = comma (expected s h (ascii ",")) (expected_proper s h (ascii ","))
+    go (Err e) g = g
 
 -- A key is refused as a string or as a name.
 pub key_proper : (s : Text) (p : Place) → MustProper (key_at s p)

@@ -2,6 +2,7 @@
 ghost use Rattle.std.specs.Prelude.{◌≡◌, [], ◌≤◌, length};
 ghost use Rattle.reading.specs.Answers.{answer_from};
 ghost use Rattle.reading.specs.Events.{start};
+ghost use Rattle.reading.specs.Gots as gots;
 ghost use Rattle.records.specs.Nodes.{out_of};
 ghost use Rattle.grammar.specs.Units.{start_of};
 ghost use Rattle.unit.specs.Entries.{Enters, EntersShort};
@@ -9,30 +10,32 @@ ghost use Rattle.unit.specs.Entries.{Enters, EntersShort};
 use crate::items::unit;
 use characters::blanks::file_start;
 use characters::place::Place;
-use characters::refusal::Refusal;
+use characters::refusal::{Refusal, Refused};
 use characters::utf8::{prefix_place, well_formed};
-use reading::answer::{Answer, Got};
+use readers::cycle::Reader;
+use reading::answer::Answer;
 use reading::tally::Tally;
+use records::book::Book;
 use records::pool::capacity;
 
 // What the caller is told: nothing of the node, so of no pool.
-fn told(got: Got) -> Answer
-    ensures { result ≡ answer_from (out_of [] got) }
+fn told(tally: Tally, read: Result<Place, Refused>) -> Answer
+    ensures { result ≡ answer_from (out_of [] (gots.got_of read tally)) }
 {
-    match got {
-        Got::Read { at, tally } => Answer {
+    match read {
+        Ok(at) => Answer {
             number: 0,
             line: at.line,
             column: at.column,
             records: tally.records,
             comparisons: tally.comparisons,
         },
-        Got::Refused { refusal, at, tally } => {
-            let number = refusal.number();
+        Err(refused) => {
+            let number = refused.refusal.number();
             Answer {
                 number,
-                line: at.line,
-                column: at.column,
+                line: refused.at.line,
+                column: refused.at.column,
                 records: tally.records,
                 comparisons: tally.comparisons,
             }
@@ -42,11 +45,9 @@ fn told(got: Got) -> Answer
 
 // "1, 2, 3 are checked .. before reading, with both counts 0."
 fn refused(refusal: Refusal, at: Place) -> Answer
-    ensures { result ≡ answer_from (out_of [] (Got.Refused refusal at start)) }
+    ensures { result ≡ answer_from (out_of [] (gots.Refused refusal at start)) }
 {
-    let tally = Tally::start();
-    let got = Got::Refused { refusal, at, tally };
-    told(got)
+    told(Tally::start(), Err(Refused { refusal, at }))
 }
 
 // "String form, or file form, which first skips a line opening with `#!`."
@@ -55,9 +56,10 @@ fn start_of(text: &[u8], file: bool) -> Place
     ensures { result ≡ start_of file text.now }
 {
     if file {
-        return file_start(text);
+        file_start(text)
+    } else {
+        Place::start()
     }
-    Place::start()
 }
 
 // THE FULL ENTRY: text, pool, nesting limit, comparison limit, and true for the file form.
@@ -69,27 +71,25 @@ pub fn read(text: &[u8], pool: &mut [u32], nest: u32, comps: u32, file: bool) ->
         line: 0,
         column: 0,
     };
-    let size = text.len();
-    if 65535 < size {
+    if 65535 < text.len() {
         return refused(Refusal::TooLong, nowhere);
     }
-    if nest < 1 {
+    if nest < 1 || 256 < nest {
         return refused(Refusal::BadNesting, nowhere);
     }
-    if 256 < nest {
-        return refused(Refusal::BadNesting, nowhere);
-    }
-    let sound = well_formed(text);
-    if !sound {
+    if !well_formed(text) {
         let at = prefix_place(text);
         return refused(Refusal::NotUtf8, at);
     }
-    let words = pool.len();
-    let cap = capacity(words);
+    let cap = capacity(pool.len());
     let at = start_of(text, file);
-    let t = Tally::start();
-    let got = unit(text, pool, cap, comps, nest, at, t);
-    told(got)
+    let reader = Reader { text, cap, comps };
+    let mut book = Book {
+        pool,
+        tally: Tally::start(),
+    };
+    let read = unit(&reader, &mut book, nest, at);
+    told(book.tally, read)
 }
 
 // THE SHORT ENTRY: "string form, nesting 64 and 100,000 comparisons".

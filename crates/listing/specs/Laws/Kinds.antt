@@ -1,13 +1,11 @@
 -- The code's tables of kinds: their names as one text, and a row of letters for each, which say what has a position and how the fields
 -- print. Both are the table of kinds written out, and antt computes that they are. Assumes nothing.
-use Rattle.std.specs.Prelude.{◌≡◌, refl, Bool, true, false, List, [], ◌∷◌, ◌++◌, map, ℕ, zero, suc, ◌+◌, ◌*◌, ◌≤◌, ◌<◌, ltb, eqb, length, get_or}
+use Rattle.std.specs.Prelude.{◌≡◌, refl, Bool, true, false, List, [], ◌∷◌, ◌++◌, map, ℕ, zero, suc, ◌+◌, ◌*◌, ◌≤◌, ◌<◌, ltb, eqb, length, get_or, None, Option, Some}
 use Rattle.std.proofs.Common.{sym, ap, ◌∙◌, arith, get_or-append-add, ltb-true, ltb-false, ne_eqb}
 use Rattle.std.proofs.Math.ListN.{get_or-append, get_or-eq_default, get_or-map}
 use Rattle.characters.specs.declared.place.Place.{Place}
 use Rattle.characters.specs.Text.{Text}
 use Rattle.records.specs.declared.kind.Kind.{Kind}
-use Rattle.records.specs.declared.kind.KindAt.{KindAt}
-use Rattle.records.specs.declared.kind.KindAt.TheVariants.{Known, Unknown}
 use Rattle.records.specs.Kinds.{number_of, kinds}
 use Rattle.records.proofs.Laws.Kinds.{kind_number}
 use Rattle.listing.specs.declared.fields.Form.{Form}
@@ -22,7 +20,7 @@ number_small k = go (ltb (number_of k) (length kinds)) refl
     go : (t : Bool) → ltb (number_of k) (length kinds) ≡ t → number_of k < length kinds
     go true e = ltb-true (number_of k) (length kinds) e
     go false e =
-        let z : Known k ≡ Unknown = sym (kind_number k) ∙ get_or-eq_default kinds Unknown (ltb-false (number_of k) (length kinds) e) in
+        let z : Some k ≡ None = sym (kind_number k) ∙ get_or-eq_default kinds None (ltb-false (number_of k) (length kinds) e) in
         let b : ◌≡◌ {A = ℕ} 0 1 = cc in
         absurd (omega arith)
 
@@ -34,15 +32,15 @@ number_bound k =
 
 -- ---- names
 
-abbrev pub name_by : KindAt → Text
-name_by (Known k) = name_of k
-name_by Unknown = []
+abbrev pub name_by : Option Kind → Text
+name_by (Some k) = name_of k
+name_by None = []
 
 abbrev pub names : List Text
 names = map name_by kinds
 
 pub name_at : (k : Kind) → get_or names (number_of k) [] ≡ name_of k
-name_at k = get_or-map name_by kinds (number_of k) Unknown ∙ ap name_by (kind_number k)
+name_at k = get_or-map name_by kinds (number_of k) None ∙ ap name_by (kind_number k)
 
 -- ---- letters
 
@@ -65,19 +63,19 @@ place_letter false = 112
 abbrev pub letters : Kind → Text
 letters k = place_letter (is_item k) ∷ letter (form_at k 0) ∷ letter (form_at k 1) ∷ letter (form_at k 2) ∷ letter (form_at k 3) ∷ 32 ∷ []
 
-abbrev pub letters_by : KindAt → Text
-letters_by (Known k) = letters k
-letters_by Unknown = 46 ∷ 46 ∷ 46 ∷ 46 ∷ 46 ∷ 32 ∷ []
+abbrev pub letters_by : Option Kind → Text
+letters_by (Some k) = letters k
+letters_by None = 46 ∷ 46 ∷ 46 ∷ 46 ∷ 46 ∷ 32 ∷ []
 
-abbrev pub rows : List KindAt → Text
+abbrev pub rows : List (Option Kind) → Text
 rows [] = []
 rows (k ∷ ks) = letters_by k ++ rows ks
 
-six : (k : KindAt) → length (letters_by k) ≡ 6
-six (Known k) = refl
-six Unknown = refl
+six : (k : Option Kind) → length (letters_by k) ≡ 6
+six (Some k) = refl
+six None = refl
 
-row_at : (ks : List KindAt) (n i : ℕ) → n < length ks → i < 6 → get_or (rows ks) (n * 6 + i) 256 ≡ get_or (letters_by (get_or ks n Unknown)) i 256
+row_at : (ks : List (Option Kind)) (n i : ℕ) → n < length ks → i < 6 → get_or (rows ks) (n * 6 + i) 256 ≡ get_or (letters_by (get_or ks n None)) i 256
 row_at [] n i h l = absurd (omega arith)
 row_at (k ∷ ks) zero i h l =
     ap (λ (o : ℕ). get_or (letters_by k ++ rows ks) o 256) (let z : 0 * 6 + i ≡ i = omega arith in z)
@@ -88,7 +86,7 @@ row_at (k ∷ ks) (suc n) i h l =
     ∙ row_at ks n i (omega arith) l
 
 pub letter_at : (k : Kind) (i : ℕ) → i < 6 → get_or (rows kinds) (number_of k * 6 + i) 256 ≡ get_or (letters k) i 256
-letter_at k i h = row_at kinds (number_of k) i (number_small k) h ∙ ap (λ (x : KindAt). get_or (letters_by x) i 256) (kind_number k)
+letter_at k i h = row_at kinds (number_of k) i (number_small k) h ∙ ap (λ (x : Option Kind). get_or (letters_by x) i 256) (kind_number k)
 
 -- ---- a letter's form
 

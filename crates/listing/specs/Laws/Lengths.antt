@@ -1,5 +1,5 @@
 -- How long a line can be, so that a caller can lend a buffer that it fits in. Assumes nothing.
-use Rattle.std.specs.Prelude.{◌≡◌, refl, Bool, true, false, ◌&&◌, List, [], ◌∷◌, ◌++◌, map, ℕ, zero, suc, ◌+◌, ◌-◌, ◌*◌, ◌/◌, ◌%◌, ◌≤◌, ◌<◌, leb, ltb, eqb, length, get_or, drop}
+use Rattle.std.specs.Prelude.{◌≡◌, refl, Bool, true, false, ◌&&◌, List, [], ◌∷◌, ◌++◌, map, ℕ, zero, suc, ◌+◌, ◌-◌, ◌*◌, ◌/◌, ◌%◌, ◌≤◌, ◌<◌, leb, ltb, eqb, length, get_or, drop, Err, None, Ok, Option, Result, Some}
 use Rattle.std.proofs.Common.{sym, ap, subst, ◌∙◌, arith, length-append, length-take, length-drop, ltb-true, ltb-false, leb-true}
 use Rattle.std.proofs.Math.Bool.{and-eq-true_iff}
 use Rattle.std.proofs.Math.ListN.{get_or-map}
@@ -7,15 +7,12 @@ use Rattle.characters.specs.declared.place.Place.{Place}
 use Rattle.characters.specs.Text.{Text, ascii, start, on_by}
 use Rattle.literals.specs.declared.bytearrays.Mode.{Mode}
 use Rattle.literals.specs.declared.bytearrays.Mode.TheVariants.{Between}
-use Rattle.literals.specs.declared.bytearrays.Seen.{Seen}
-use Rattle.literals.specs.declared.bytearrays.Seen.TheVariants.{Byte, Opened, Shut, Refused}
+use Rattle.literals.specs.declared.bytearrays.Seen.TheVariants.{Byte, Opened, Shut}
 use Rattle.literals.specs.Strings.{decode, width_in, key_of}
 use Rattle.literals.specs.SpellingLaws.{key_length}
 use Rattle.literals.specs.ByteArrays.{Contents, shut, halted, push, read, contents, bytes_of, listed, step}
 use Rattle.reading.specs.declared.answer.Answer.{Answer}
 use Rattle.records.specs.declared.kind.Kind.{Kind}
-use Rattle.records.specs.declared.kind.KindAt.{KindAt}
-use Rattle.records.specs.declared.kind.KindAt.TheVariants.{Known, Unknown}
 use Rattle.records.specs.declared.row.Row.{Row}
 use Rattle.records.specs.Kinds.{number_of, kinds, kind_of}
 use Rattle.records.specs.Rows.{width, row_by, row_if, row_at}
@@ -26,6 +23,8 @@ use Rattle.listing.specs.Listing.{decimal, signed, place, spanned, name, utf8, c
 use Rattle.listing.specs.Laws.Numbers.{decimal_one, decimal_more}
 use Rattle.listing.specs.Laws.Texts.{utf8_one, utf8_two, utf8_three, utf8_four}
 use Rattle.listing.specs.Laws.Kinds.{names, name_at}
+use Rattle.characters.specs.declared.refusal.Refused.{Refused}
+use Rattle.literals.specs.declared.bytearrays.Seen.{Seen}
 
 -- ---- numbers
 
@@ -142,15 +141,15 @@ read_length s [] left m last p = omega arith
 read_length s (b ∷ t) (suc left) m last p = let z = read_length s t left m last p in omega arith
 read_length s (b ∷ t) zero m last p = go (step s m last p) (λ k n v q. read_length s t k n v q)
   where
-    go : (r : Seen) → ((k : ℕ) (n : Mode) (v : ℕ) (q : Place) → length (listed (read s k t n v q)) ≤ length t)
-        → length (listed (elim r as (λ u. Contents) [ Byte v n q ↦ push v (read s (q.offset - (p.offset + 1)) t n v q) | Opened n q ↦ read s (q.offset - (p.offset + 1)) t n last q | Shut q ↦ shut q [] | Refused k q ↦ halted k q ])) ≤ suc (length t)
-    go (Byte v n q) ih =
+    go : (r : Result Seen Refused) → ((k : ℕ) (n : Mode) (v : ℕ) (q : Place) → length (listed (read s k t n v q)) ≤ length t)
+        → length (listed (elim r as (λ u. Contents) [ Ok (Byte v n q) ↦ push v (read s (q.offset - (p.offset + 1)) t n v q) | Ok (Opened n q) ↦ read s (q.offset - (p.offset + 1)) t n last q | Ok (Shut q) ↦ shut q [] | Err e ↦ halted e.refusal e.at ])) ≤ suc (length t)
+    go (Ok (Byte v n q)) ih =
         let a = ih (q.offset - (p.offset + 1)) n v q in
         let b = push_length v (read s (q.offset - (p.offset + 1)) t n v q) in
         omega arith
-    go (Opened n q) ih = let a = ih (q.offset - (p.offset + 1)) n last q in omega arith
-    go (Shut q) ih = omega arith
-    go (Refused k q) ih = omega arith
+    go (Ok (Opened n q)) ih = let a = ih (q.offset - (p.offset + 1)) n last q in omega arith
+    go (Ok (Shut q)) ih = omega arith
+    go (Err e) ih = omega arith
 
 pairs_length : (vs : List ℕ) → length (pairs vs) ≡ 3 * length vs
 unfolding pairs
@@ -224,13 +223,13 @@ field_length s Sign w x h k = let z = sign_length w in omega arith
 abbrev total : Kind → ℕ
 total k = cost (form_at k 0) + cost (form_at k 1) + cost (form_at k 2) + cost (form_at k 3)
 
-abbrev total_by : KindAt → ℕ
-total_by (Known k) = total k
-total_by Unknown = 0
+abbrev total_by : Option Kind → ℕ
+total_by (Some k) = total k
+total_by None = 0
 
 total_length : (k : Kind) → total k ≤ 262165
 total_length k =
-    subst (λ (n : ℕ). n ≤ 262165) (get_or-map total_by kinds (number_of k) Unknown ∙ ap total_by (kind_number k))
+    subst (λ (n : ℕ). n ≤ 262165) (get_or-map total_by kinds (number_of k) None ∙ ap total_by (kind_number k))
     (most_at 262165 (map total_by kinds) (number_of k) refl)
 
 -- ---- lines
@@ -289,10 +288,10 @@ line_length s n w l h =
     omega arith
 
 -- The line of a row, or of none.
-row_length : (s : Text) (n : ℕ) → n < 4294967296 → (t : Bool) (k : KindAt) (p : Place) (a b c d : ℕ) → p.line < 4294967296 → p.column < 4294967296
+row_length : (s : Text) (n : ℕ) → n < 4294967296 → (t : Bool) (k : Option Kind) (p : Place) (a b c d : ℕ) → p.line < 4294967296 → p.column < 4294967296
     → a < 4294967296 → b < 4294967296 → c < 4294967296 → d < 4294967296 → length (line_by s n (row_if t (row_by k p a b c d))) ≤ 262209
-row_length s n l true (Known k) p a b c d h i e f g j = line_length s n (record { kind = k; position = p; a = a; b = b; c = c; d = d }) l (record { line = h; column = i; a = e; b = f; c = g; d = j })
-row_length s n l true Unknown p a b c d h i e f g j = let z = word n l in let y = length-append (decimal n) (32 ∷ 63 ∷ 10 ∷ []) in omega arith
+row_length s n l true (Some k) p a b c d h i e f g j = line_length s n (record { kind = k; position = p; a = a; b = b; c = c; d = d }) l (record { line = h; column = i; a = e; b = f; c = g; d = j })
+row_length s n l true None p a b c d h i e f g j = let z = word n l in let y = length-append (decimal n) (32 ∷ 63 ∷ 10 ∷ []) in omega arith
 row_length s n l false k p a b c d h i e f g j = let z = word n l in let y = length-append (decimal n) (32 ∷ 63 ∷ 10 ∷ []) in omega arith
 
 pub at_length : (s : Text) (pool : List ℕ) (n : ℕ) → n < 4294967296 → ((i : ℕ) → get_or pool i 0 < 4294967296) → length (line_at s pool n) ≤ 262209

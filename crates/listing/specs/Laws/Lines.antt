@@ -1,22 +1,20 @@
 -- The laws of lines: a record's by what the pool has, and the last one by the answer's number. Assumes nothing.
-use Rattle.std.specs.Prelude.{◌≡◌, Bool, true, false, List, [], ◌∷◌, ◌++◌, ℕ}
+use Rattle.std.specs.Prelude.{◌≡◌, Bool, true, false, List, [], ◌∷◌, ◌++◌, ℕ, None, Some}
 use Rattle.std.proofs.Math.Path.{sym}
-use Rattle.std.proofs.Common.{ap, ◌∙◌, eq-eqb, ne_eqb}
+use Rattle.std.proofs.Common.{ap, eq-eqb, ne_eqb}
 use Rattle.characters.specs.Text.{Text, ascii}
 use Rattle.reading.specs.declared.answer.Answer.{Answer}
 use Rattle.records.specs.declared.row.Row.{Row}
-use Rattle.records.specs.declared.row.RowAt.{RowAt}
-use Rattle.records.specs.declared.row.RowAt.TheVariants.{Here, Nothing}
 use Rattle.records.specs.Rows.{row_at}
 use Rattle.listing.specs.Listing.{decimal, place, line_of, line_by, line_at, counts, last_line}
 
-pub line_here : (s : Text) (pool : List ℕ) (n : ℕ) {r : RowAt} {w : Row} → r ≡ row_at pool n → r ≡ Here w → line_of s n w ≡ line_at s pool n
+pub line_here : (s : Text) (pool : List ℕ) (n : ℕ) {w : Row} → Some w ≡ row_at pool n → line_of s n w ≡ line_at s pool n
 unfolding line_at
-line_here s pool n e h = ap (line_by s n) (sym h ∙ e)
+line_here s pool n e = ap (line_by s n) e
 
-pub line_lacking : (s : Text) (pool : List ℕ) (n : ℕ) {r : RowAt} → r ≡ row_at pool n → r ≡ Nothing → decimal n ++ (32 ∷ 63 ∷ 10 ∷ []) ≡ line_at s pool n
+pub line_lacking : (s : Text) (pool : List ℕ) (n : ℕ) → None ≡ row_at pool n → decimal n ++ (32 ∷ 63 ∷ 10 ∷ []) ≡ line_at s pool n
 unfolding line_at
-line_lacking s pool n e h = ap (line_by s n) (sym h ∙ e)
+line_lacking s pool n e = ap (line_by s n) e
 
 module _ (a : Answer) where
   abbrev by : Bool → Text

@@ -1,27 +1,26 @@
 -- The laws of characters, strings and bytearrays as they print. Assumes nothing.
-use Rattle.std.specs.Prelude.{◌≡◌, refl, Bool, true, false, ℕ, ◌+◌, ◌/◌, ◌%◌, ◌≤◌, ◌<◌, length}
+use Rattle.std.specs.Prelude.{◌≡◌, refl, Bool, true, false, ℕ, ◌+◌, ◌/◌, ◌%◌, ◌≤◌, ◌<◌, length, None, Some, Ok, Err, Result}
 use Rattle.std.proofs.Math.Path.{sym}
 use Rattle.std.proofs.Common.{ap, subst, ◌∙◌, arith, length-take, drop_of_length-le}
 use mathlib.Core.List.{List, [], ◌∷◌, ◌++◌}
 use borrow.Author.Tests.{lt-ltb, le-ltb, eq-eqb, ne_eqb}
 use Rattle.characters.specs.declared.place.Place.{Place}
-use Rattle.characters.specs.declared.refusal.Refusal.{Refusal}
-use Rattle.characters.specs.declared.tokens.Must.TheVariants.{Taken, Failed}
 use Rattle.characters.specs.Text.{Text, Stands, start, on_by}
 use Rattle.characters.specs.PlaceLaws.{Advanced}
 use Rattle.literals.specs.declared.bytearrays.Mode.{Mode}
 use Rattle.literals.specs.declared.bytearrays.Mode.TheVariants.{Between}
-use Rattle.literals.specs.declared.bytearrays.Seen.{Seen}
-use Rattle.literals.specs.declared.bytearrays.Seen.TheVariants.{Byte, Opened, Shut, Refused}
+use Rattle.literals.specs.declared.bytearrays.Seen.TheVariants.{Byte, Opened, Shut}
 use Rattle.literals.specs.ByteArrays.{Contents, shut, halted, push, read, contents, bytearray, bytes_of, listed, span_by, step}
 use Rattle.literals.specs.ByteArrayLaws.{SeenOn, step_on, read_from, follow, read_step, pushed}
-use Rattle.literals.specs.declared.strings.Spelled.{Spelled}
-use Rattle.literals.specs.declared.strings.Spelled.TheVariants.{Char, End}
 use Rattle.literals.specs.Strings.{decoded, key_of, piece}
 use Rattle.literals.specs.SpellingLaws.{decoded_from, piece_char, piece_end}
 use Rattle.listing.specs.Listing.{spanned, name, minus, utf8, character, characters, quoted, hex, pair, pairs, bytes}
 use Rattle.listing.specs.Sheets.{Sheet, Writes, wrote}
 use Rattle.listing.specs.Laws.Sheets.{Going, going_on, going_end}
+use Rattle.characters.specs.declared.place.Token.{Token}
+use Rattle.characters.specs.declared.refusal.Refused.{Refused}
+use Rattle.literals.specs.declared.bytearrays.Seen.{Seen}
+use Rattle.literals.specs.declared.strings.Spelled.{Spelled}
 
 -- ---- a character
 
@@ -45,13 +44,13 @@ module _ (v : ℕ) where
 -- ---- strings
 
 -- One character of what is left, and the rest.
-pub spelled_on : (t : Text) (i v j : ℕ) {r : Spelled} → r ≡ piece t i → Char v j ≡ r → characters (decoded_from t i) ≡ character v ++ characters (decoded_from t j)
+pub spelled_on : (t : Text) (i : ℕ) (x : Spelled) → Some x ≡ piece t i → characters (decoded_from t i) ≡ character x.value ++ characters (decoded_from t x.next)
 unfolding characters
-spelled_on t i v j e k = ap characters (piece_char t i v j (k ∙ e))
+spelled_on t i x e = ap characters (piece_char t i x e)
 
-pub spelled_end : (t : Text) (i : ℕ) {r : Spelled} → r ≡ piece t i → End ≡ r → characters (decoded_from t i) ≡ []
+pub spelled_end : (t : Text) (i : ℕ) → None ≡ piece t i → characters (decoded_from t i) ≡ []
 unfolding characters
-spelled_end t i e k = ap characters (piece_end t i (k ∙ e))
+spelled_end t i e = ap characters (piece_end t i e)
 
 -- A string's or a key's characters between two quotes.
 pub between_quotes : (t inner : Text) (n : ℕ) → n ≡ length t → inner ≡ key_of t 0 n → (34 ∷ []) ++ (characters (decoded inner) ++ (34 ∷ [])) ≡ quoted t
@@ -97,13 +96,13 @@ printing_start {s} {p} {w} h =
       going = record { same = ap (λ (c : Contents). wrote (pairs (listed c)) w) (sym h.is); size = refl };
     }
 
-module _ {s whole : Text} {w now : Sheet} {m : Mode} {last : ℕ} {p : Place} {r : Seen} (i : Printing s whole w now m last p) (e : r ≡ step s m last p) where
-  ahead : {x : Seen} → r ≡ x → (SeenOn s p x) × (follow s last x ≡ shut i.end i.bytes)
+module _ {s whole : Text} {w now : Sheet} {m : Mode} {last : ℕ} {p : Place} {r : Result Seen Refused} (i : Printing s whole w now m last p) (e : r ≡ step s m last p) where
+  ahead : {x : Result Seen Refused} → r ≡ x → (SeenOn s p x) × (follow s last x ≡ shut i.end i.bytes)
   ahead {x} k =
       let z : step s m last p ≡ x = sym e ∙ k in
       (subst (SeenOn s p) z (step_on s m last p i.stands), ap (follow s last) (sym z) ∙ sym (read_step s m last p i.stands) ∙ i.is)
 
-  pub printing_byte : {v : ℕ} {n : Mode} {q : Place} {l : Sheet} → r ≡ Byte v n q → Writes (pair v) now l → length l.out ≡ length now.out → Printing s whole w l n v q
+  pub printing_byte : {v : ℕ} {n : Mode} {q : Place} {l : Sheet} → r ≡ Ok (Byte v n q) → Writes (pair v) now l → length l.out ≡ length now.out → Printing s whole w l n v q
   unfolding pairs
   printing_byte {v} {n} {q} k x size =
       let z = ahead k in
@@ -112,10 +111,10 @@ module _ {s whole : Text} {w now : Sheet} {m : Mode} {last : ℕ} {p : Place} {r
       let c : i.bytes ≡ v ∷ y.0 = cc in
       record { stands = z.0.1.stands; end = i.end; bytes = y.0; is = y.1; going = going_on i.going x (ap pairs c) size }
 
-  pub printing_opened : {n : Mode} {q : Place} → r ≡ Opened n q → Printing s whole w now n last q
+  pub printing_opened : {n : Mode} {q : Place} → r ≡ Ok (Opened n q) → Printing s whole w now n last q
   printing_opened k = let z = ahead k in record { stands = z.0.stands; end = i.end; bytes = i.bytes; is = z.1; going = i.going }
 
-  pub printing_shut : {q : Place} → r ≡ Shut q → Writes whole w now
+  pub printing_shut : {q : Place} → r ≡ Ok (Shut q) → Writes whole w now
   unfolding pairs
   printing_shut {q} k =
       let z : shut q [] ≡ shut i.end i.bytes = (ahead k).1 in
@@ -123,16 +122,16 @@ module _ {s whole : Text} {w now : Sheet} {m : Mode} {last : ℕ} {p : Place} {r
       going_end i.going (ap pairs b)
 
   -- What is shut is not refused on the way.
-  pub printing_refused : {f : Refusal} {q : Place} → r ≡ Refused f q → Writes whole w now
-  printing_refused {f} {q} k =
-      let z : halted f q ≡ shut i.end i.bytes = (ahead k).1 in
+  pub printing_refused : {f : Refused} → r ≡ Err f → Writes whole w now
+  printing_refused {f} k =
+      let z : halted f.refusal f.at ≡ shut i.end i.bytes = (ahead k).1 in
       let b : ◌≡◌ {A = ℕ} 0 1 = cc in
       absurd (omega arith)
 
-  pub byte_further : {v : ℕ} {n : Mode} {q : Place} → r ≡ Byte v n q → Advanced s p q
+  pub byte_further : {v : ℕ} {n : Mode} {q : Place} → r ≡ Ok (Byte v n q) → Advanced s p q
   byte_further k = (ahead k).0.1
 
-  pub opened_further : {n : Mode} {q : Place} → r ≡ Opened n q → Advanced s p q
+  pub opened_further : {n : Mode} {q : Place} → r ≡ Ok (Opened n q) → Advanced s p q
   opened_further k = (ahead k).0
 
 -- ---- spans
@@ -161,20 +160,20 @@ pub bytes_short : (t : Text) → length t < 2 → [] ≡ bytes t
 unfolding bytes bytes_of contents read pairs
 bytes_short t h = ap (λ (x : Text). pairs (listed (read t 0 x Between 256 (on_by 2 start)))) (sym (drop_of_length-le t (let z : length t ≤ 2 = omega arith in z)))
 
-pub bytes_refused : (t : Text) {f : Refusal} {q : Place} → bytearray t (on_by 2 start) ≡ Failed f q → [] ≡ bytes t
+pub bytes_refused : (t : Text) {f : Refused} → Err f ≡ bytearray t (on_by 2 start) → [] ≡ bytes t
 unfolding bytes bytes_of bytearray pairs
-bytes_refused t {f} {q} e = go (contents t (on_by 2 start)) e
+bytes_refused t {f} e = go (contents t (on_by 2 start)) e
   where
-    go : (c : Contents) → span_by (on_by 2 start) c ≡ Failed f q → [] ≡ pairs (listed c)
+    go : (c : Contents) → Err f ≡ span_by (on_by 2 start) c → [] ≡ pairs (listed c)
     go (shut x l) z = let b : ◌≡◌ {A = ℕ} 0 1 = cc in absurd (omega arith)
     go (halted k x) z = refl
 
 -- One that is taken is shut.
-pub taken_shut : (t : Text) (p : Place) {h q : Place} → Stands t p → bytearray t p ≡ Taken h q → Shuts t p
+pub taken_shut : (t : Text) (p : Place) {x : Token} → Stands t p → Ok x ≡ bytearray t p → Shuts t p
 unfolding bytearray
-taken_shut t p {h} {q} st e = go (contents t p) refl e
+taken_shut t p {x} st e = go (contents t p) refl e
   where
-    go : (c : Contents) → contents t p ≡ c → span_by p c ≡ Taken h q → Shuts t p
+    go : (c : Contents) → contents t p ≡ c → Ok x ≡ span_by p c → Shuts t p
     go (shut x l) f z = record { stands = st; end = x; bytes = l; is = f }
     go (halted k x) f z = let b : ◌≡◌ {A = ℕ} 0 1 = cc in absurd (omega arith)
 

@@ -1,6 +1,6 @@
 -- Words, each ended by a space: how the code finds one, and that it is the one that a list of them has there. Assumes nothing.
-use Rattle.std.specs.Prelude.{◌≡◌, refl, Bool, ℕ, zero, suc, ◌+◌, ◌-◌, ◌≤◌, ◌<◌, eqb, length, drop}
-use Rattle.std.proofs.Common.{sym, ◌∙◌, add-one, drop_of_length-le, drop-cons, eq-eqb, ne_eqb}
+use Rattle.std.specs.Prelude.{◌≡◌, refl, Bool, ℕ, zero, suc, ◌+◌, ◌-◌, ◌≤◌, ◌<◌, eqb, length, take, drop}
+use Rattle.std.proofs.Common.{sym, ◌∙◌, add-one, drop_of_length-le, length-drop, drop-cons, take_all, eq-eqb, ne_eqb}
 use Rattle.std.proofs.Math.Path.{ap}
 use Rattle.std.proofs.Math.Bool.{true, false}
 use mathlib.Core.List.{List, [], ◌∷◌, ◌++◌}
@@ -98,12 +98,12 @@ module _ {t : Text} {n left i : ℕ} (p : Passing t n left i) where
       go zero l = absurd (omega arith)
       go (suc m) l = ap (past_words (suc m)) (first_byte t i h) ∙ other m (get_or t i 0) (drop (i + 1) t) e
 
-  pub passing_end : length t ≤ i → drop i t ≡ past_words n t
-  passing_end h = drop_of_length-le t h ∙ sym (past_none left) ∙ ap (past_words left) (sym (drop_of_length-le t h)) ∙ p.same
+  pub passing_end : length t ≤ i → [] ≡ past_words n t
+  passing_end h = sym (past_none left) ∙ ap (past_words left) (sym (drop_of_length-le t h)) ∙ p.same
 
-  pub passing_none : left ≤ 0 → drop i t ≡ past_words n t
+  pub passing_none : left ≡ 0 → take (length t - i) (drop i t) ≡ past_words n t
   unfolding past_words
-  passing_none h = ap (λ (m : ℕ). past_words m (drop i t)) (let z : 0 ≡ left = omega arith in z) ∙ p.same
+  passing_none h = let z = length-drop i t in take_all (length t - i) (drop i t) (omega arith) ∙ ap (λ (m : ℕ). past_words m (drop i t)) (sym h) ∙ p.same
 
 module _ (t : Text) (i : ℕ) where
   pub upto_space : i < length t → get_or t i 0 ≡ 32 → up_to_space (drop i t) ≡ []

@@ -3,8 +3,8 @@ use Rattle.std.proofs.Common.{◌-◌, length}
 use Rattle.literals.specs.ByteArrayLaws.{Reading}
 use Rattle.literals_cases.proofs.list.Given as goal
 
-abbrev pub invariant-loop-value : goal.invariant-loop-value
-invariant-loop-value l = Reading l.text l.initial.p l.p l.mode l.last
+abbrev pub invariant-loop-seen : goal.invariant-loop-seen
+invariant-loop-seen l = Reading l.text l.initial.p l.p l.mode l.last
 
-abbrev pub decreases-loop-value : goal.decreases-loop-value
-decreases-loop-value l = length l.text - l.p.offset
+abbrev pub decreases-loop-seen : goal.decreases-loop-seen
+decreases-loop-seen l = length l.text - l.p.offset

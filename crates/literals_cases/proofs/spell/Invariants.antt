@@ -2,8 +2,8 @@
 use Rattle.std.proofs.Common.{◌-◌, ◌≤◌, length}
 use Rattle.literals_cases.proofs.spell.Given as goal
 
-abbrev pub invariant-loop-value : goal.invariant-loop-value
-invariant-loop-value l = l.at ≤ length l.inner
+abbrev pub invariant-loop-found : goal.invariant-loop-found
+invariant-loop-found l = l.at ≤ length l.inner
 
-abbrev pub decreases-loop-value : goal.decreases-loop-value
-decreases-loop-value l = length l.inner - l.at
+abbrev pub decreases-loop-found : goal.decreases-loop-found
+decreases-loop-found l = length l.inner - l.at

@@ -1,29 +1,29 @@
 -- Laws of rules that call no routine: what their contracts give a reader, and how a return of theirs comes about. Assumes nothing.
-use Rattle.std.specs.Prelude.{◌≡◌, refl, Bool, true, false, not, List, [], ◌∷◌, ℕ, ◌+◌, ◌≤◌}
+use Rattle.std.specs.Prelude.{◌≡◌, refl, Bool, true, false, not, List, [], ◌∷◌, ℕ, ◌+◌, ◌≤◌, Result, Err, Ok}
+use Rattle.std.specs.Result.{IsErrAnd}
+use Rattle.std.proofs.lemmas.Result.{err_from_is_err_and}
 use Rattle.std.proofs.Common.{sym, ap, ◌∙◌, arith}
 use Rattle.std.proofs.Math.Path.{subst, subst⁻¹}
 use Rattle.characters.specs.declared.place.Place.{Place}
 use Rattle.characters.specs.declared.refusal.Refusal.{Refusal}
-use Rattle.characters.specs.declared.tokens.Look.{Look}
-use Rattle.characters.specs.declared.tokens.Look.TheVariants.{Found, Missing, Halted}
-use Rattle.characters.specs.declared.tokens.Must.{Must}
-use Rattle.characters.specs.declared.tokens.Must.TheVariants.{Taken, Failed}
+use Rattle.characters.specs.declared.refusal.Refused as struct
 use Rattle.characters.specs.Text.{Text, Stands, on_by}
 use Rattle.characters.specs.PlaceLaws.{Advanced, reached_here}
 use Rattle.characters.specs.Tokens.{token, expected, needed}
 use Rattle.characters.specs.TokenLaws.{TokenOn, token_on}
+use Rattle.characters.specs.Answers.{Looked, Must, failed, found, missing, taken}
 use Rattle.reading.specs.declared.node.Node.{Node}
 use Rattle.reading.specs.declared.tally.Tally.{Tally}
-use Rattle.reading.specs.declared.answer.Out.TheVariants as out
-use Rattle.reading.specs.declared.answer.Got.{Got}
-use Rattle.reading.specs.declared.answer.Got.TheVariants.{Read, Refused}
+use Rattle.reading.specs.Outs as out
+use Rattle.reading.specs.Gots.{Got, Read, Refused, got_of}
 use Rattle.reading.specs.Process.{Process, done, stop, make, test, must, bind}
 use Rattle.reading.specs.Says.{Does}
-use Rattle.reading.proofs.Laws.Does.{by_done, by_stop, yes_way, no_way, taken, failed}
+use Rattle.reading.proofs.Laws.Does.{by_done, by_stop, by_make, yes_way, no_way, by_taken, by_failed}
 use Rattle.records.specs.declared.row.Row.{Row}
-use Rattle.records.specs.Rows.{layout, record_of}
+use Rattle.records.specs.Rows.{Lent, layout, record_of}
 use Rattle.records.specs.Nodes.{Stored, value_of, node_at, MakesRow}
-use Rattle.records.proofs.Laws.Nodes.{stored_made, row_as}
+use Rattle.records.proofs.Laws.Rows.{lent_kept}
+use Rattle.records.proofs.Laws.Nodes.{stored_made, row_as, does_length}
 use Rattle.grammar.specs.Expressions.{Routine}
 use Rattle.grammar.specs.Grammar.{grammar}
 use Rattle.grammar.specs.Reads.{Ready, Reads}
@@ -40,6 +40,23 @@ pub not_false : (b : Bool) → not b ≡ false → b ≡ true
 not_false true e = refl
 not_false false e = sym e
 
+-- ---- code that answers by a `Result`, and leaves a tally
+
+-- what was read, and why it was refused
+pub got_read : {r : Result Place struct.Refused} {p : Place} {u : Tally} → r ≡ Ok p → got_of r u ≡ Read p u
+got_read {u = u} e = ap (λ (x : Result Place struct.Refused). got_of x u) e
+
+pub got_err : {r : Result Place struct.Refused} {x : struct.Refused} {u : Tally} → r ≡ Err x → got_of r u ≡ Refused x.refusal x.at u
+got_err {u = u} e = ap (λ (x : Result Place struct.Refused). got_of x u) e
+
+-- what was read, by what it was found to be
+pub ok_as : {A : Type 0} {r : Result A struct.Refused} {x y : A} → r ≡ Ok x → x ≡ y → r ≡ Ok y
+ok_as e f = e ∙ ap Ok f
+
+-- `?` hands the refusal on as it is
+pub handed : {A : Type 0} (r : Result A struct.Refused) {x : struct.Refused} → IsErrAnd r (λ y. y ≡ x) → r ≡ Err x
+handed r i = let p = err_from_is_err_and r i in p.1 ∙ ap Err p.2
+
 -- ---- what the next one may be called with
 
 pub room_of : {s pool : List ℕ} {cap : ℕ} {at : Place} {t : Tally} → Ready s pool cap at t → Room pool cap t
@@ -55,6 +72,10 @@ begun_then g e h = record { ready = ready_then g e h; some = (read_ends e h).mad
 -- the last record stands in the pool
 pub last_stored : {pool : List ℕ} {cap : ℕ} {t : Tally} → Room pool cap t → 1 ≤ t.records → Stored pool t.records
 last_stored g l = stored_made g.lent l g.room
+
+-- and laying a record leaves the pool as long as it was
+pub lent_made : {cap : ℕ} {t : Tally} {p : Place} {w : Row} {r : Got} {A B : List ℕ} → Lent A cap → MakesRow cap t p w r A B → Lent B cap
+lent_made l m = lent_kept l (does_length (by_make {G = grammar []} {comps = 0} {left = 0} m.makes))
 
 -- ---- what such a contract gives
 
@@ -81,40 +102,40 @@ module _ {s : Text} {cap comps left : ℕ} {t : Tally} {P : Process Routine} {A 
 
 -- it is gone over
 NeedOn : Text → Place → Must → Type 0
-NeedOn s p (Taken h n) = Advanced s p n
-NeedOn s p (Failed k q) = Unit
+NeedOn s p (Ok t) = Advanced s p t.next
+NeedOn s p (Err e) = Unit
 
 need_leads : (s : Text) (p : Place) (b : ℕ) → Stands s p → NeedOn s p (expected s p (b ∷ []))
 unfolding expected NeedOn
 need_leads s p b v = go (token s p (b ∷ [])) (token_on s p (b ∷ []) v)
   where
-    go : (l : Look) → TokenOn s p (b ∷ []) l → NeedOn s p (needed l)
-    go (Found h n) g =
+    go : (l : Looked) → TokenOn s p (b ∷ []) l → NeedOn s p (needed l)
+    go (found h n) g =
         let o : n.offset ≡ h.offset + 1 = ap (λ (x : Place). x.offset) g.2 in
         let i : p.offset ≤ h.offset = g.0.further in
         record { stands = g.1.stands; further = omega arith }
-    go (Missing h) g = tt
-    go (Halted k q) g = tt
+    go (missing h) g = tt
+    go (Err e) g = tt
 
 module _ {s : Text} (at : Place) (b : ℕ) {l : Must} (e : l ≡ expected s at (b ∷ [])) where
-  pub need_on : {h n : Place} → Stands s at → l ≡ Taken h n → Advanced s at n
+  pub need_on : {h n : Place} → Stands s at → l ≡ taken h n → Advanced s at n
   unfolding NeedOn
   need_on v f = subst (NeedOn s at) (sym e ∙ f) (need_leads s at b v)
 
   -- what is read on after it
-  pub ready_need : {pool : List ℕ} {cap : ℕ} {t : Tally} {h n : Place} → Ready s pool cap at t → l ≡ Taken h n → Ready s pool cap n t
+  pub ready_need : {pool : List ℕ} {cap : ℕ} {t : Tally} {h n : Place} → Ready s pool cap at t → l ≡ taken h n → Ready s pool cap n t
   ready_need g f = ready_at g (need_on g.stands f).stands
 
   pub reads_taken : {cap comps left : ℕ} {t : Tally} {h n : Place} {f : Place → Place → Process Routine} {r : Got} {A B : List ℕ} → Stands s at
-      → l ≡ Taken h n
+      → l ≡ taken h n
       → Reads s cap comps left n t (f h n) r A B
       → Reads s cap comps left (on_by 1 at) t (must (expected s at (b ∷ [])) f) r A B
-  reads_taken v x h = reads_on (taken e x) (ahead (need_on v x)).further h
+  reads_taken v x h = reads_on (by_taken e x) (ahead (need_on v x)).further h
 
   pub reads_failed : {cap comps left : ℕ} {from : Place} {t : Tally} {k : Refusal} {q : Place} {f : Place → Place → Process Routine} {A : List ℕ}
-      → l ≡ Failed k q
+      → l ≡ failed k q
       → Reads s cap comps left from t (must (expected s at (b ∷ [])) f) (Refused k q t) A A
-  reads_failed x = refuses (failed e x)
+  reads_failed x = refuses (by_failed e x)
 
 -- ---- how a return comes about
 
@@ -154,3 +175,9 @@ module _ {cap : ℕ} {at : Place} {t : Tally} {A : List ℕ} where
       → r ≡ Refused j p u → Acts cap at t X r A B
       → Acts cap at t (bind X k) r A B
   acts_stop e x = record { reads = λ s g comps left. reads_stop e (x.reads s g comps left) }
+
+  -- and the refusal of the first, told again
+  pub acts_halt : {u : Tally} {X : Process Routine} {k : Place → Node → Process Routine} {r : Result Place struct.Refused} {x : struct.Refused} {B : List ℕ}
+      → r ≡ Err x → Acts cap at t X (got_of r u) A B
+      → Acts cap at t (bind X k) (Refused x.refusal x.at u) A B
+  acts_halt {u} {X} {k} {B = B} e x = subst (λ (g : Got). Acts cap at t (bind X k) g A B) (got_err e) (acts_stop (got_err e) x)

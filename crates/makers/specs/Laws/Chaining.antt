@@ -9,9 +9,8 @@ use Rattle.characters.specs.Text.{Text}
 use Rattle.characters.specs.PlaceLaws.{Reached, Advanced}
 use Rattle.reading.specs.declared.node.Node.{Node}
 use Rattle.reading.specs.declared.tally.Tally.{Tally}
-use Rattle.reading.specs.declared.answer.Got.{Got}
-use Rattle.reading.specs.declared.answer.Got.TheVariants.{Read, Refused}
-use Rattle.reading.specs.declared.answer.Out.{Out}
+use Rattle.reading.specs.Gots.{Got, Read, Refused}
+use Rattle.reading.specs.Outs.{Out}
 use Rattle.reading.specs.Process.{bind}
 use Rattle.reading.specs.Says.{Does}
 use Rattle.reading.proofs.Laws.Does.{by_stop, then, stops, yes_way, no_way, does_more}
@@ -27,7 +26,7 @@ use Rattle.grammar.specs.Grammar.{grammar}
 use Rattle.grammar.specs.Reads.{Ready, EndsBy, Reads}
 use Rattle.grammar.specs.ReadLaws.{read_ends, reads_on, refuses}
 use Rattle.makers.specs.declared.chains.Chain.{Chain}
-use Rattle.makers.specs.declared.chains.Reduced.{Reduced}
+use Rattle.makers.specs.Answers.Reduced.{Reduced}
 use Rattle.makers.specs.Duties.{Begun, last_of, Room}
 use Rattle.makers.specs.Chains.{pending_of, Rises, Pushed, Reduces}
 use Rattle.makers.specs.Laws.Acts.{room_of, begun_then, reads_refused}

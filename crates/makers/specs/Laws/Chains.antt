@@ -6,9 +6,8 @@ use Rattle.std.proofs.Math.ListN.{get_or-eq_default}
 use Rattle.characters.specs.declared.place.Place.{Place}
 use Rattle.characters.specs.Text.{Text, Stands}
 use Rattle.reading.specs.declared.tally.Tally.{Tally}
-use Rattle.reading.specs.declared.answer.Got.{Got}
-use Rattle.reading.specs.declared.answer.Got.TheVariants.{Read, Refused}
-use Rattle.reading.specs.declared.answer.Out.TheVariants as out
+use Rattle.reading.specs.Gots.{Got, Read, Refused}
+use Rattle.reading.specs.Outs as out
 use Rattle.reading.specs.Process.{Grammar, done}
 use Rattle.reading.specs.Says.{Does}
 use Rattle.reading.proofs.Laws.Does.{by_done, told}
@@ -22,7 +21,7 @@ use Rattle.grammar.specs.Expressions.{Routine, Pending, waits, reduce_p}
 use Rattle.grammar.specs.Grammar.{grammar}
 use Rattle.makers.specs.declared.chains.Pends.{Pends}
 use Rattle.makers.specs.declared.chains.Chain.{Chain}
-use Rattle.makers.specs.declared.chains.Reduced.{Reduced}
+use Rattle.makers.specs.Answers.Reduced.{Reduced}
 use Rattle.makers.specs.Duties.{Begun, last_of}
 use Rattle.makers.specs.Chains.{nothing, waits_at, entries, pending_of, Rising, bottom, above, Sides, Rises, Pushed, Reduces}
 

@@ -13,10 +13,9 @@ use Rattle.characters.specs.Text.{Text, Stands}
 use Rattle.literals.specs.Strings.{same_key}
 use Rattle.reading.specs.declared.node.Node.{Node}
 use Rattle.reading.specs.declared.tally.Tally.{Tally}
-use Rattle.reading.specs.declared.answer.Got.{Got}
-use Rattle.reading.specs.declared.answer.Got.TheVariants.{Read, Refused}
-use Rattle.reading.specs.declared.answer.Out.{Out}
-use Rattle.reading.specs.declared.answer.Out.TheVariants as out
+use Rattle.reading.specs.Gots.{Got, Read, Refused}
+use Rattle.reading.specs.Outs.{Out}
+use Rattle.reading.specs.Outs as out
 use Rattle.reading.specs.Events.{with_comparison}
 use Rattle.reading.specs.Process.{Process, Grammar, stop, compare, test, bind}
 use Rattle.reading.specs.Says.{laid, Does}

@@ -1,6 +1,6 @@
 -- THE RECORD THAT A RULE MAKES LAST, where its name is to be found later: a function's row holds the name that the routine was given, a class's
 -- row is a class's, and no statement is the declaration of a class. Assumes nothing.
-use Rattle.std.specs.Prelude.{◌≡◌, refl}
+use Rattle.std.specs.Prelude.{◌≡◌, refl, Err, None, Ok, Option, Result, Some}
 use Rattle.std.proofs.Common.{sym, ◌∙◌}
 use Rattle.std.proofs.Math.Path.{ap}
 use Rattle.std.proofs.Math.Bool.{true, false}
@@ -10,12 +10,12 @@ use native.Mathlib.Omega.{arith}
 use Rattle.std.proofs.Math.ListN.{length}
 use Rattle.characters.specs.declared.place.Place.{Place}
 use Rattle.characters.specs.declared.place.Span.{Span}
-use Rattle.characters.specs.declared.tokens.Look.TheVariants.{Found, Missing, Halted}
-use Rattle.characters.specs.declared.tokens.Must.TheVariants.{Taken, Failed}
 use Rattle.characters.specs.Text.{Text}
+use Rattle.characters.specs.Answers.{found, missing}
+use Rattle.characters.specs.declared.refusal.Refused.{Refused}
 use Rattle.reading.specs.declared.node.Node.{Node}
 use Rattle.reading.specs.declared.tally.Tally.{Tally}
-use Rattle.reading.specs.declared.answer.Out.TheVariants.{Read}
+use Rattle.reading.specs.Outs.{Read}
 use Rattle.reading.specs.Events.{Rec, Event, entered, recorded, End, Done, Stop, Crossed, Spent, Outcome, ended, records_of, steps}
 use Rattle.reading.specs.Limits.{Limits, limited, Verdict, goes, over, judge, judged, guarded}
 use Rattle.reading.specs.Process.{done, stop, spent, make, compare, fresh, call, test, look, must, bind, node_of, joined, after, under, run}
@@ -33,16 +33,8 @@ use Rattle.records.specs.Rows.{Lent, layout, record_of}
 use Rattle.records.specs.Nodes.{word_at, kind_at, held_at, held_in, value_by, closure_at, value_at}
 use Rattle.records.proofs.Laws.Rows.{laid_length}
 use Rattle.records.proofs.Laws.Nodes.{held_laid, node_laid}
-use Rattle.grammar.specs.declared.heads.ClassHead.{ClassHead}
-use Rattle.grammar.specs.declared.heads.ClassHead.TheVariants as classes
-use Rattle.grammar.specs.declared.heads.StatementHead.{StatementHead}
 use Rattle.grammar.specs.declared.heads.StatementHead.TheVariants as head
-use Rattle.grammar.specs.declared.heads.StepHead.{StepHead}
 use Rattle.grammar.specs.declared.heads.StepHead.TheVariants as step
-use Rattle.grammar.specs.declared.heads.Assignment.{Assignment}
-use Rattle.grammar.specs.declared.heads.Assignment.TheVariants.{Sign, Absent}
-use Rattle.grammar.specs.declared.heads.LetHead.{LetHead}
-use Rattle.grammar.specs.declared.heads.LetHead.TheVariants as lets
 use Rattle.grammar.specs.Heads.{class_of, head_of, let_of, step_of, assign_of}
 use Rattle.grammar.specs.Expressions.{Routine, Rule, statement, function, class, turns}
 use Rattle.grammar.specs.Leaves.{row_of}
@@ -50,6 +42,11 @@ use Rattle.grammar.specs.Functions.{name_span, name_word, new_name, block_row, s
 use Rattle.grammar.specs.Statements.{absent, if_row, for_row, assign_row, let_row, return_p, jump_p, else_p, if_p, for_end_p, loop_p, while_p, target_p, combine_p, store_p, increment_p, do_p, assign_as, expr_or_assign_as, expr_or_assign_p, for_rest_p, for_p, assert_p, declare_p, let_as, let_p, fun_statement_p, statement_as, statement_p}
 use Rattle.grammar.specs.Classes.{class_row, class_end_p, class_as, class_p}
 use Rattle.grammar.specs.Grammar.{grammar}
+use Rattle.grammar.specs.declared.heads.Assignment.{Assignment}
+use Rattle.grammar.specs.declared.heads.ClassHead.{ClassHead}
+use Rattle.grammar.specs.declared.heads.LetHead.{LetHead}
+use Rattle.grammar.specs.declared.heads.StatementHead.{StatementHead}
+use Rattle.grammar.specs.declared.heads.StepHead.{StepHead}
 
 -- ---- rules that end with a record
 
@@ -120,11 +117,11 @@ module _ (R : Row → Type 0) (sub : Routine → Place → Tally → Outcome) (L
   closes (call nt p) t h = absurd h
   closes (test true x y) t h = closes x t h.0
   closes (test false x y) t h = closes y t h.1
-  closes (look (Found a n) f g) t h = closes (f a n) t (h.0 a n)
-  closes (look (Missing a) f g) t h = closes (g a) t (h.1 a)
-  closes (look (Halted k p) f g) t h = tt
-  closes (must (Taken a n) f) t h = closes (f a n) t (h a n)
-  closes (must (Failed k p) f) t h = tt
+  closes (look (found a n) f g) t h = closes (f a n) t (h.0 a n)
+  closes (look (missing a) f g) t h = closes (g a) t (h.1 a)
+  closes (look (Err e) f g) t h = tt
+  closes (must (Ok x) f) t h = closes (f x.here x.next) t (h x.here x.next)
+  closes (must (Err e) f) t h = tt
   closes (bind x k) t h = go (under sub L t x).end (under sub L t x).events (λ p n u. closes (k p n) u (h p n))
     where
       go : (end : End) (es : List Event)
@@ -244,9 +241,9 @@ unfolding class_p class_end_p
 class_lasts s from names p =
     λ h q. new_lasts (Kinded kinds.Class) s q from (name_span h q) names (class_as s from (name_word h q) (class_of s q)) (go (name_word h q) (class_of s q))
   where
-    go : (name : ℕ) (x : ClassHead) → Lasts (Kinded kinds.Class) (class_as s from name x)
-    go name (classes.Opened parent n) = λ q l k i. rowed (class_row from i.number name parent l.number) refl
-    go name (classes.Wrong k q) = tt
+    go : (name : ℕ) (x : Result ClassHead Refused) → Lasts (Kinded kinds.Class) (class_as s from name x)
+    go name (Ok t) = λ q l k i. rowed (class_row from i.number name t.parent l.number) refl
+    go name (Err e) = tt
 
 module _ (s : Text) {cap comps left : ℕ} {t u : Tally} {from p q : Place} {names : List Span} {n : Node} {A B : List ℕ}
     (d : Does layout (grammar s) cap comps left t (call (class from names) p) (Read q n u) A B) (l : t.records ≤ cap) (lent : Lent A cap) where
@@ -272,17 +269,17 @@ module _ (s : Text) where
   unfolding increment_p target_p combine_p
   increment_lasts end from op e p = ((λ h n q i r b. rowed (assign_row from e b) (omega arith)), tt)
 
-  assign_lasts : (end : ℕ) (from : Place) (e : Node) (q : Place) (x : Assignment) → Lasts Other (assign_as s end from e q x)
+  assign_lasts : (end : ℕ) (from : Place) (e : Node) (q : Place) (x : Option Assignment) → Lasts Other (assign_as s end from e q x)
   unfolding target_p store_p combine_p do_p
-  assign_lasts end from e q (Sign op n) =
+  assign_lasts end from e q (Some x) =
       ((λ r v h m. (rowed (assign_row from e v) (omega arith), λ k b. rowed (assign_row from e b) (omega arith))), tt)
-  assign_lasts end from e q Absent = λ h n. (rowed (row_of kinds.Do from e.number 0 0) (omega arith), tt)
+  assign_lasts end from e q None = λ h n. (rowed (row_of kinds.Do from e.number 0 0) (omega arith), tt)
 
-  step_lasts : (end : ℕ) (from : Place) (x : StepHead) → Lasts Other (expr_or_assign_as s end from x)
+  step_lasts : (end : ℕ) (from : Place) (x : Result StepHead Refused) → Lasts Other (expr_or_assign_as s end from x)
   unfolding expr_or_assign_p
-  step_lasts end from (step.Step op n) = λ q e. increment_lasts end from op e q
-  step_lasts end from step.Other = λ q e. assign_lasts end from e q (assign_of s q)
-  step_lasts end from (step.Wrong k q) = tt
+  step_lasts end from (Ok (step.Step op n)) = λ q e. increment_lasts end from op e q
+  step_lasts end from (Ok step.Other) = λ q e. assign_lasts end from e q (assign_of s q)
+  step_lasts end from (Err e) = tt
 
   for_lasts : (from : Place) (first e third x : Node) (p : Place) → Lasts Other (for_end_p from first e third x p)
   unfolding for_end_p
@@ -293,27 +290,27 @@ module _ (s : Text) where
   block_lasts zero from last p = tt
   block_lasts (suc f) from last p = ((λ h n. rowed (block_row from last) (omega arith)), λ h q i. block_lasts f from i.number q)
 
-  let_lasts : (from : Place) (x : LetHead) → Lasts Other (let_as s from x)
+  let_lasts : (from : Place) (x : Result LetHead Refused) → Lasts Other (let_as s from x)
   unfolding declare_p
-  let_lasts from (lets.Named mark name n) = λ q e h m. rowed (let_row from mark name e) (omega arith)
-  let_lasts from (lets.Wrong k q) = tt
+  let_lasts from (Ok t) = λ q e h m. rowed (let_row from t.mark t.span e) (omega arith)
+  let_lasts from (Err e) = tt
 
-  head_lasts : (x : StatementHead) → Lasts Other (statement_as s x)
+  head_lasts : (x : Result StatementHead Refused) → Lasts Other (statement_as s x)
   unfolding return_p jump_p if_p else_p loop_p while_p for_p for_rest_p assert_p let_p fun_statement_p declare_p block_p expr_or_assign_p
-  head_lasts (head.Return h n) = ((λ a b q e. rowed (return_row h e) (omega arith)), λ a q e k m. rowed (return_row h e) (omega arith))
-  head_lasts (head.Break h n) = λ a m. rowed (row_of kinds.Break h 0 0 0) (omega arith)
-  head_lasts (head.Continue h n) = λ a m. rowed (row_of kinds.Continue h 0 0 0) (omega arith)
-  head_lasts (head.If h n) =
+  head_lasts (Ok (head.Return h n)) = ((λ a b q e. rowed (return_row h e) (omega arith)), λ a q e k m. rowed (return_row h e) (omega arith))
+  head_lasts (Ok (head.Break h n)) = λ a m. rowed (row_of kinds.Break h 0 0 0) (omega arith)
+  head_lasts (Ok (head.Continue h n)) = λ a m. rowed (row_of kinds.Continue h 0 0 0) (omega arith)
+  head_lasts (Ok (head.If h n)) =
       λ q e r x. ((λ a m k y. rowed (if_row h e x y.number) (omega arith)), λ a. rowed (if_row h e x 0) (omega arith))
-  head_lasts (head.Loop h n) = λ q x. for_lasts h (absent q) (absent q) (absent q) x q
-  head_lasts (head.While h n) = λ q e r x. for_lasts h (absent r) e (absent r) x r
-  head_lasts (head.For h n) = λ a m q first r e k third j x. for_lasts h first e third x j
-  head_lasts (head.Assert h n) = λ q e a m. rowed (row_of kinds.Assert h e.number 0 0) (omega arith)
-  head_lasts (head.Let h n) = let_lasts h (let_of s n)
-  head_lasts (head.Fun h n) = λ a q r f k c. rowed (let_row h 0 (name_word a q) c) (omega arith)
-  head_lasts (head.Block h n) = block_lasts (turns s) h 0 n
-  head_lasts (head.ExprOrAssign h) = step_lasts 59 h (step_of s h)
-  head_lasts (head.Wrong k q) = tt
+  head_lasts (Ok (head.Loop h n)) = λ q x. for_lasts h (absent q) (absent q) (absent q) x q
+  head_lasts (Ok (head.While h n)) = λ q e r x. for_lasts h (absent r) e (absent r) x r
+  head_lasts (Ok (head.For h n)) = λ a m q first r e k third j x. for_lasts h first e third x j
+  head_lasts (Ok (head.Assert h n)) = λ q e a m. rowed (row_of kinds.Assert h e.number 0 0) (omega arith)
+  head_lasts (Ok (head.Let h n)) = let_lasts h (let_of s n)
+  head_lasts (Ok (head.Fun h n)) = λ a q r f k c. rowed (let_row h 0 (name_word a q) c) (omega arith)
+  head_lasts (Ok (head.Block h n)) = block_lasts (turns s) h 0 n
+  head_lasts (Ok (head.ExprOrAssign h)) = step_lasts 59 h (step_of s h)
+  head_lasts (Err e) = tt
 
   pub statement_kind : {cap comps left : ℕ} {t u : Tally} {p q : Place} {n : Node} {A B : List ℕ}
       → Does layout (grammar s) cap comps left t (call statement p) (Read q n u) A B → t.records ≤ cap → Lent A cap

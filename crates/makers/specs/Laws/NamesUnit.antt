@@ -8,19 +8,17 @@ use Rattle.characters.specs.declared.place.Place.{Place}
 use Rattle.characters.specs.declared.place.Span.{Span}
 use Rattle.characters.specs.declared.refusal.Refusal.{Refusal}
 use Rattle.characters.specs.declared.refusal.Refusal.TheVariants.{InitWithoutParameter}
-use Rattle.characters.specs.declared.tokens.Must.{Must}
-use Rattle.characters.specs.declared.tokens.Must.TheVariants.{Taken, Failed}
 use Rattle.characters.specs.Text.{Text, Stands}
 use Rattle.characters.specs.Names.{name}
 use Rattle.characters.specs.NameLaws.{NamedOn, name_on}
 use Rattle.characters.specs.PlaceLaws.{Advanced}
+use Rattle.characters.specs.Answers.{Must, failed, taken}
 use Rattle.reading.specs.declared.node.Node.{Node}
 use Rattle.reading.specs.declared.tally.Tally.{Tally}
-use Rattle.reading.specs.declared.answer.Got.{Got}
-use Rattle.reading.specs.declared.answer.Got.TheVariants.{Read, Refused}
+use Rattle.reading.specs.Gots.{Got, Read, Refused}
 use Rattle.reading.specs.Process.{Process, Grammar, make, call}
 use Rattle.reading.specs.Says.{Does}
-use Rattle.reading.proofs.Laws.Does.{by_stop, by_make, then, stops, told, yes_way, no_way, taken, failed}
+use Rattle.reading.proofs.Laws.Does.{by_stop, by_make, then, stops, told, yes_way, no_way, by_taken, by_failed}
 use Rattle.records.specs.declared.kind.Kind.TheVariants as kinds
 use Rattle.records.specs.declared.row.Row.{Row}
 use Rattle.records.specs.Kinds.{number_of}
@@ -45,16 +43,16 @@ use Rattle.makers.specs.Laws.NamesLast.{function_name, class_value, statement_ki
 
 -- ---- a method
 
-pub name_taken : {s : Text} {p h q : Place} {l : Must} → Stands s p → l ≡ name s p → l ≡ Taken h q → (h ≡ p) × Advanced s p q
+pub name_taken : {s : Text} {p h q : Place} {l : Must} → Stands s p → l ≡ name s p → l ≡ taken h q → (h ≡ p) × Advanced s p q
 name_taken {s} {p} v e f = let g = subst (NamedOn s p) (sym e ∙ f) (name_on s p v) in (g.0, g.1)
 
 module _ {s : Text} {pool : List ℕ} {cap comps last : ℕ} {at : Place} {t : Tally} (g : Ready s pool cap at t) (w : Well Methods pool t last) {l : Must} (e : l ≡ name s at) where
   -- no name
-  pub method_fails : {left : ℕ} {j : Refusal} {q : Place} → l ≡ Failed j q → Method s cap comps left last at t (Refused j q t) pool pool
+  pub method_fails : {left : ℕ} {j : Refusal} {q : Place} → l ≡ failed j q → Method s cap comps left last at t (Refused j q t) pool pool
   unfolding method_p
-  method_fails f = record { does = failed e f; ends = tt; listed = λ z. absurd (read_or_refused refl z) }
+  method_fails f = record { does = by_failed e f; ends = tt; listed = λ z. absurd (read_or_refused refl z) }
 
-  module _ {h q : Place} (f : l ≡ Taken h q) {o : Got} (c : Unique Methods s comps t q q (name_span h q) (names_of Methods pool last) o) where
+  module _ {h q : Place} (f : l ≡ taken h q) {o : Got} (c : Unique Methods s comps t q q (name_span h q) (names_of Methods pool last) o) where
     name_here : (h ≡ at) × Advanced s at q
     name_here = name_taken g.stands e f
 
@@ -63,7 +61,7 @@ module _ {s : Text} {pool : List ℕ} {cap comps last : ℕ} {at : Place} {t : T
     unfolding method_p
     method_clashes x =
         record {
-          does = told (sym (ap (out_of pool) x)) (taken e f (name_stops Methods refl _ c x));
+          does = told (sym (ap (out_of pool) x)) (by_taken e f (name_stops Methods refl _ c x));
           ends = ends_off s at x;
           listed = λ z. absurd (read_or_refused x z);
         }
@@ -79,7 +77,7 @@ module _ {s : Text} {pool : List ℕ} {cap comps last : ℕ} {at : Place} {t : T
         unfolding method_p
         method_stops y =
             record {
-              does = told (sym (ap (out_of mid) y)) (taken e f (name_then Methods refl c x (stops (refused_of y d.does))));
+              does = told (sym (ap (out_of mid) y)) (by_taken e f (name_then Methods refl c x (stops (refused_of y d.does))));
               ends = ends_off s at y;
               listed = λ z. absurd (read_or_refused y z);
             }
@@ -91,7 +89,7 @@ module _ {s : Text} {pool : List ℕ} {cap comps last : ℕ} {at : Place} {t : T
           unfolding method_p method_end_p
           method_bare b =
               record {
-                does = taken e f (name_then Methods refl c x (then (read_of y d.does) (yes_way b by_stop)));
+                does = by_taken e f (name_then Methods refl c x (then (read_of y d.does) (yes_way b by_stop)));
                 ends = tt;
                 listed = λ z. absurd (read_or_refused refl z);
               }
@@ -106,7 +104,7 @@ module _ {s : Text} {pool : List ℕ} {cap comps last : ℕ} {at : Place} {t : T
               let j = name_here.1.further in
               let k = (read_ends y d).reached.further in
               let z : Reads s cap comps left at t (method_p s (names_of Methods pool last) last at) a pool after =
-              reads_on (λ o. taken e f (name_then Methods refl c x (then (read_of y d.does) (no_way b o)))) (omega arith) (reads_make n m')
+              reads_on (λ o. by_taken e f (name_then Methods refl c x (then (read_of y d.does) (no_way b o)))) (omega arith) (reads_make n m')
               in
               let made = (read_ends y d).made in
               let was : held_at mid u'.records 1 ≡ name_word h q = function_name s (read_of y d.does) method_ready.room method_ready.lent in

@@ -1,5 +1,5 @@
 -- THE WALK OVER NAMES, as code goes: what it finds in a row, how two names compare, and a turn of the walk. Assumes nothing.
-use Rattle.std.specs.Prelude.{◌≡◌, Bool, ◌&&◌, List, [], ◌∷◌, ◌++◌, ℕ, suc, ◌+◌, ◌≤◌, ◌<◌, ◌^◌, get_or, drop}
+use Rattle.std.specs.Prelude.{◌≡◌, Bool, ◌&&◌, List, [], ◌∷◌, ◌++◌, ℕ, suc, ◌+◌, ◌≤◌, ◌<◌, ◌^◌, get_or, drop, None, Option, Some}
 use Rattle.std.proofs.Math.Path.{refl, sym, ap, subst⁻¹}
 use Rattle.std.proofs.Common.{subst, ◌∙◌, add-one, drop_of_length-le, drop-cons, eq-eqb, ne_eqb, eqb-true, ltb-true, ltb-false, lt-ltb, le-ltb, le-leb}
 use Rattle.std.proofs.Math.Bool.{true, false}
@@ -12,21 +12,18 @@ use Rattle.characters.specs.declared.place.Span.{Span}
 use Rattle.characters.specs.declared.refusal.Refusal.TheVariants.{Duplicate, TooManyComparisons}
 use Rattle.characters.specs.Text.{Text, ByteOf}
 use Rattle.characters.specs.Names.{same}
-use Rattle.literals.specs.declared.strings.Spelled.TheVariants.{Char}
 use Rattle.literals.specs.Strings.{decoded, piece}
 use Rattle.literals.specs.StringLaws.{not_ended}
 use Rattle.literals.specs.SpellingLaws.{part_length, key_length, piece_none, piece_ascii, Comparing, both_end, first_ends, second_ends, differ, compare_on}
+use Rattle.literals.specs.Answers.{spells_as}
 use Rattle.reading.specs.declared.tally.Tally.{Tally}
-use Rattle.reading.specs.declared.answer.Got.{Got}
-use Rattle.reading.specs.declared.answer.Got.TheVariants.{Read, Refused}
+use Rattle.reading.specs.Gots.{Got, Read, Refused}
 use Rattle.reading.specs.Events.{with_comparison}
 use Rattle.records.specs.Words.{span_of, low_of, high_of, whole_of}
 use Rattle.records.specs.Nodes.{Stored, word_at, kind_at, held_at, before_at, closure_at, value_by, role_by, value_at, node_at}
 use Rattle.records.proofs.Laws.Words.{low_back, high_back}
 use Rattle.grammar.specs.Units.{is_function, declared_name}
 use Rattle.makers.specs.declared.names.Naming.{Naming}
-use Rattle.makers.specs.declared.names.Held.{Held}
-use Rattle.makers.specs.declared.names.Held.TheVariants.{Named, Nothing}
 use Rattle.makers.specs.Names.{held_if, function_of, class_of, held_by, names_at, names_by, names_of, Refers, Linked, Chained, spells, bytes_by, is_long, alike_by, same_by, held_of, Unique}
 use Rattle.makers.specs.Laws.Names.{Walked, walked, unique_none, unique_over, unique_same, unique_on}
 
@@ -211,13 +208,13 @@ module _ (b : ℕ) where
   long_end h = rw (ne_eqb b 92 (λ e. omega arith), le-leb 128 b (omega arith), le-ltb b 256 h) refl
 
 -- any other byte of the text is its character
-plain_char : {a : Text} {i x : ℕ} → ByteOf a i x → is_long x ≡ false → (x ≡ 256 → ⊥) → Char x (i + 1) ≡ piece a i
+plain_char : {a : Text} {i x : ℕ} → ByteOf a i x → is_long x ≡ false → (x ≡ 256 → ⊥) → spells_as x (i + 1) ≡ piece a i
 plain_char {a} {i} {x} e p n = go (ltb x 128) refl (eqb x 92) refl
   where
     no : {P : Type 0} → true ≡ is_long x → P
     no z = let w : ◌≡◌ {A = Bool} true false = z ∙ p in absurd (let q : ◌≡◌ {A = ℕ} 0 1 = cc in omega arith)
 
-    go : (u : Bool) → ltb x 128 ≡ u → (v : Bool) → eqb x 92 ≡ v → Char x (i + 1) ≡ piece a i
+    go : (u : Bool) → ltb x 128 ≡ u → (v : Bool) → eqb x 92 ≡ v → spells_as x (i + 1) ≡ piece a i
     go true f false g = piece_ascii e n (eqb-false x 92 g) (ltb-true x 128 f)
     go true f true g = no (long_escape x (eqb-true x 92 g))
     go false f v g = no (long_high x (ltb-false x 128 f) (not_ended e n))
@@ -225,7 +222,7 @@ plain_char {a} {i} {x} e p n = go (ltb x 128) refl (eqb x 92) refl
 module _ {a b : Text} {i x y : ℕ} (h : Comparing a b i i) (e : ByteOf a i x) (f : ByteOf b i y) where
   -- both texts end
   pub spell_ends : x ≡ y → x ≡ 256 → true ≡ same (decoded a) (decoded b)
-  spell_ends z l = both_end h (piece_none e l) (piece_none f (sym z ∙ l)) refl refl
+  spell_ends z l = both_end h (piece_none e l) (piece_none f (sym z ∙ l))
 
   module _ (p : is_long x ≡ false) (q : is_long y ≡ false) where
     -- the first difference
@@ -234,12 +231,12 @@ module _ {a b : Text} {i x y : ℕ} (h : Comparing a b i i) (e : ByteOf a i x) (
       where
         go : (u : Bool) → eqb x 256 ≡ u → (v : Bool) → eqb y 256 ≡ v → false ≡ same (decoded a) (decoded b)
         go true k true l = absurd (n (eqb-true x 256 k ∙ sym (eqb-true y 256 l)))
-        go true k false l = first_ends h (piece_none e (eqb-true x 256 k)) (plain_char f q (eqb-false y 256 l)) refl refl
-        go false k true l = second_ends h (plain_char e p (eqb-false x 256 k)) (piece_none f (eqb-true y 256 l)) refl refl
-        go false k false l = differ h (plain_char e p (eqb-false x 256 k)) (plain_char f q (eqb-false y 256 l)) refl refl n
+        go true k false l = first_ends h (piece_none e (eqb-true x 256 k)) (plain_char f q (eqb-false y 256 l))
+        go false k true l = second_ends h (plain_char e p (eqb-false x 256 k)) (piece_none f (eqb-true y 256 l))
+        go false k false l = differ h (plain_char e p (eqb-false x 256 k)) (plain_char f q (eqb-false y 256 l)) n
 
     pub spell_on : x ≡ y → (x ≡ 256 → ⊥) → Comparing a b (i + 1) (i + 1)
-    spell_on z n = compare_on h (plain_char e p n) (plain_char f q (λ l. n (z ∙ l))) refl refl z
+    spell_on z n = compare_on h (plain_char e p n) (plain_char f q (λ l. n (z ∙ l))) z
 
 -- ---- by their bytes, or by what these spell
 
@@ -289,15 +286,15 @@ module _ {nm : Naming} {s : Text} {pool : List ℕ} {comps : ℕ} {q at : Place}
     pub walk_less : {before : ℕ} → before ≡ before_at pool item → before < item
     walk_less e = rw e here.linked.earlier
 
-    module _ {h : Held} (f : held_of h ≡ names_at nm pool item) where
-      names_here : {x : Held} → h ≡ x → names_of nm pool item ≡ held_of x ++ names_of nm pool (before_at pool item)
+    module _ {h : Option Span} (f : held_of h ≡ names_at nm pool item) where
+      names_here : {x : Option Span} → h ≡ x → names_of nm pool item ≡ held_of x ++ names_of nm pool (before_at pool item)
       names_here {x} g = here.names ∙ ap (λ (l : List Span). l ++ names_of nm pool (before_at pool item)) (sym f ∙ ap held_of g)
 
-      by_names : {name : Span} {x : Held} {v : Tally} {r : Got} → h ≡ x → Unique nm s comps v q at name (held_of x ++ names_of nm pool (before_at pool item)) r
+      by_names : {name : Span} {x : Option Span} {v : Tally} {r : Got} → h ≡ x → Unique nm s comps v q at name (held_of x ++ names_of nm pool (before_at pool item)) r
           → Unique nm s comps v q at name (names_of nm pool item) r
       by_names {name} {v = v} {r = r} g d = subst⁻¹ (λ (l : List Span). Unique nm s comps v q at name l r) (names_here g) d
 
-      next : {before : ℕ} (x : Held) (v : Tally) → h ≡ x → before ≡ before_at pool item
+      next : {before : ℕ} (x : Option Span) (v : Tally) → h ≡ x → before ≡ before_at pool item
           → ((name : Span) → mine ≡ bytes_by (spells nm) s name → (r : Got) → Unique nm s comps v q at name (names_of nm pool (before_at pool item)) r
           → Unique nm s comps u q at name (held_of x ++ names_of nm pool (before_at pool item)) r)
           → Walks nm s pool comps q at mine last t before v
@@ -307,10 +304,10 @@ module _ {nm : Naming} {s : Text} {pool : List ℕ} {comps : ℕ} {q at : Place}
           rw e (record { chained = here.rest; small = omega arith; rest = λ name y r c. w.rest name y r (by_names g (d name y r c)) })
 
       -- it holds no name
-      pub walk_pass : {before : ℕ} → h ≡ Nothing → before ≡ before_at pool item → Walks nm s pool comps q at mine last t before u
-      walk_pass g e = next Nothing u g e (λ name y r c. c)
+      pub walk_pass : {before : ℕ} → h ≡ None → before ≡ before_at pool item → Walks nm s pool comps q at mine last t before u
+      walk_pass g e = next None u g e (λ name y r c. c)
 
-      module _ {k : Span} (g : h ≡ Named k) where
+      module _ {k : Span} (g : h ≡ Some k) where
         -- no comparison is left
         pub walk_over : (name : Span) → mine ≡ bytes_by (spells nm) s name → comps ≤ u.comparisons
             → Unique nm s comps t q at name (names_of nm pool last) (Refused TooManyComparisons q u)
@@ -332,4 +329,4 @@ module _ {nm : Naming} {s : Text} {pool : List ℕ} {comps : ℕ} {q at : Place}
           pub walk_on : {before : ℕ} → b ≡ false → before ≡ before_at pool item → Walks nm s pool comps q at mine last t before v
           walk_on {before} o e =
               subst⁻¹ (λ (c : Tally). Walks nm s pool comps q at mine last t before c) m
-              (next (Named k) (with_comparison u) g e (λ name x r c. unique_on l (same_as name x ∙ o) c))
+              (next (Some k) (with_comparison u) g e (λ name x r c. unique_on l (same_as name x ∙ o) c))

@@ -1,15 +1,15 @@
 -- Laws of plain operands in a reading: what the rules of expressions come to where one was read, and where none was. Assumes nothing.
-use Rattle.std.specs.Prelude.{◌≡◌, refl, Bool, true, false, List, [], ℕ, ◌+◌, ◌-◌, ◌≤◌, ◌<◌, ◌^◌, length}
+use Rattle.std.specs.Prelude.{◌≡◌, refl, Bool, true, false, List, [], ℕ, ◌+◌, ◌-◌, ◌≤◌, ◌<◌, ◌^◌, length, Ok, Result}
 use Rattle.std.proofs.Common.{sym, ap, subst, ◌∙◌, arith}
 use Rattle.std.proofs.Math.Path.{subst⁻¹}
 use Rattle.characters.specs.declared.place.Place.{Place}
 use Rattle.characters.specs.Text.{Text, Stands, on_by}
 use Rattle.characters.specs.PlaceLaws.{Reached, reached_here}
+use Rattle.characters.specs.declared.refusal.Refused.{Refused}
 use Rattle.reading.specs.declared.tally.Tally.{Tally}
-use Rattle.reading.specs.declared.answer.Out.{Out}
-use Rattle.reading.specs.declared.answer.Out.TheVariants as out
-use Rattle.reading.specs.declared.answer.Got.{Got}
-use Rattle.reading.specs.declared.answer.Got.TheVariants.{Read}
+use Rattle.reading.specs.Outs.{Out}
+use Rattle.reading.specs.Outs as out
+use Rattle.reading.specs.Gots.{Got, Read}
 use Rattle.reading.specs.Events.{with_record}
 use Rattle.reading.specs.Process.{Process, call, bind}
 use Rattle.reading.specs.Says.{Does}
@@ -17,9 +17,7 @@ use Rattle.reading.proofs.Laws.Does.{by_done, then, yes_way, along, enter}
 use Rattle.records.specs.Kinds.{number_of}
 use Rattle.records.specs.Rows.{Lent, Lays, layout}
 use Rattle.records.proofs.Laws.Nodes.{row_made}
-use Rattle.grammar.specs.declared.leaves.Prefix.{Prefix}
 use Rattle.grammar.specs.declared.leaves.Prefix.TheVariants.{Other}
-use Rattle.grammar.specs.declared.leaves.Postfix.{Postfix}
 use Rattle.grammar.specs.declared.leaves.Postfix.TheVariants.{Rest}
 use Rattle.grammar.specs.declared.leaves.Link.{Link}
 use Rattle.grammar.specs.declared.leaves.Link.TheVariants.{Choice, Operator, Assign, End}
@@ -28,6 +26,8 @@ use Rattle.grammar.specs.Expressions.{Routine, turns, atom_p, postfix_as, postfi
 use Rattle.grammar.specs.Grammar.{grammar}
 use Rattle.grammar.specs.Reads.{Ready, Reads}
 use Rattle.grammar.specs.ReadLaws.{reads_on, reads_then, reads_leaf, ready_at, ready_then}
+use Rattle.grammar.specs.declared.leaves.Postfix.{Postfix}
+use Rattle.grammar.specs.declared.leaves.Prefix.{Prefix}
 use Rattle.makers.specs.Duties.{Begun, last_of}
 use Rattle.makers.specs.Plain.{near_of, PlainMade, Plain, Rests, EndsBy, Over, routine_by, rest_p}
 use Rattle.makers.specs.Laws.PlainEnds.{reached, near_stands, prefix_near, postfix_near}
@@ -70,7 +70,7 @@ module _ {s : Text} {cap : ℕ} {from : Place} {made n : ℕ} {A B : List ℕ} (
 -- from `at` and t on an operand was read to q and u, its one record laid; what follows it is to be read
 pub record PlainRead (s : Text) (cap : ℕ) (at : Place) (t : Tally) (q : Place) (u : Tally) (A B : List ℕ) : Type 0 where
   pub from : Place
-  pub sign : prefix_of s at ≡ Other from
+  pub sign : prefix_of s at ≡ Ok (Other from)
   pub atom : (comps left : ℕ) → Does layout (grammar s) cap comps left t (atom_p s from) (out.Read q (last_of B u) u) A B
   pub further : at.offset ≤ q.offset
   pub begun : Begun s B cap q u
@@ -104,11 +104,11 @@ ended : {s : Text} {cap comps left : ℕ} {q p : Place} {u : Tally} {P : Process
     → Does layout (grammar s) cap comps left u P (out.Read p (last_of B u) u) B B → Reads s cap comps left q u P (Read p u) B B
 ended g h d = record { does = d; ends = record { reached = h; made = g.some; ids = g.ready.ids } }
 
-posts_end : {s : Text} {cap comps left : ℕ} {q p : Place} {u : Tally} {B : List ℕ} → Begun s B cap q u → Reached s q p → postfix_of s q ≡ Rest p
+posts_end : {s : Text} {cap comps left : ℕ} {q p : Place} {u : Tally} {B : List ℕ} → Begun s B cap q u → Reached s q p → postfix_of s q ≡ Ok (Rest p)
     → Reads s cap comps left q u (postfixes_p (turns s) s (last_of B u) q) (Read p u) B B
 unfolding postfixes_p
 posts_end {s} {cap} {comps} {left} {q} {p} {u} {B} g h e =
-    ended g h (along (λ (x : Postfix). postfix_as s (last_of B u) x (postfixes_p (length s) s)) (sym e) by_done)
+    ended g h (along (λ (x : Result Postfix Refused). postfix_as s (last_of B u) x (postfixes_p (length s) s)) (sym e) by_done)
 
 -- past one space stands no suffix
 pub posts_rest : {s : Text} {cap comps left : ℕ} {q p : Place} {u : Tally} {b : Bool} {B : List ℕ} → Begun s B cap q u → p ≡ near_of s q → Rests s p b → b ≡ true
@@ -171,7 +171,7 @@ module _ {s : Text} {cap : ℕ} {at : Place} {t : Tally} {q : Place} {u : Tally}
       → Does layout (grammar s) cap comps left t (f (bind (atom_p s o.from) (λ p e. postfixes_p (turns s) s e p))) r A Z
       → Does layout (grammar s) cap comps left t (f (prefix_p s at)) r A Z
   unfolding prefix_p postfix_p
-  as_postfix f d = along (λ (x : Prefix). f (prefix_as s x)) (sym o.sign) d
+  as_postfix f d = along (λ (x : Result Prefix Refused). f (prefix_as s x)) (sym o.sign) d
 
   -- the operand with its suffixes
   pub plain_posts : {comps left : ℕ} {r : Got} {Z : List ℕ} → Reads s cap comps left q u (postfixes_p (turns s) s (last_of B u) q) r B Z

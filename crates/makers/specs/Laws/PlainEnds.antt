@@ -1,28 +1,28 @@
 -- Laws of what stands beside a plain operand: past one space all reads alike, and what its first byte or the byte behind it shuts out.
 -- Assumes nothing.
-use Rattle.std.specs.Prelude.{◌≡◌, Bool, true, false, ◌&&◌, ◌||◌, not, ◌⊎◌, ℕ, zero, suc, ◌+◌, ◌≤◌, ◌<◌, eqb, drop}
+use Rattle.std.specs.Prelude.{◌≡◌, Bool, true, false, ◌&&◌, ◌||◌, not, ◌⊎◌, ℕ, zero, suc, ◌+◌, ◌≤◌, ◌<◌, eqb, drop, Ok, Result}
 use Rattle.std.proofs.Math.Path.{refl, ap, subst⁻¹}
 use Rattle.std.proofs.Common.{sym, ◌∙◌, inl, inr, ⊎_elim, arith, ne_eqb, eqb-true, le-ltb}
 use mathlib.Core.List.{[], ◌∷◌}
 use Rattle.std.proofs.lemmas.Bool.{eqb-false, not-true}
 use Rattle.characters.specs.declared.place.Place.{Place}
 use Rattle.characters.specs.declared.refusal.Refusal.TheVariants.{PostfixIncrement, IncrementAsExpression}
-use Rattle.characters.specs.declared.tokens.Must.{Must}
-use Rattle.characters.specs.declared.tokens.Must.TheVariants.{Taken}
 use Rattle.characters.specs.Text.{Text, byte_at, ByteOf, ascii, on_by, past, Stands}
 use Rattle.characters.specs.PlaceLaws.{Reached, reached_here, in_text, front, past_low, on_by_stands}
 use Rattle.characters.specs.Blanks.{is_blank, begins, Mode, between, line, block, passing, out, pass, blanks, opens_blank}
 use Rattle.characters.specs.BlankLaws.{pass_from, over_blank, at_token, not_blank, bare}
 use Rattle.characters.specs.Names.{is_name_byte, name}
 use Rattle.characters.specs.Tokens.{spells, is_keyword}
-use Rattle.grammar.specs.declared.leaves.Prefix.{Prefix}
+use Rattle.characters.specs.Answers.{Must, failed, taken}
+use Rattle.characters.specs.declared.refusal.Refused.{Refused}
 use Rattle.grammar.specs.declared.leaves.Prefix.TheVariants as prefix
-use Rattle.grammar.specs.declared.leaves.Postfix.{Postfix}
 use Rattle.grammar.specs.declared.leaves.Postfix.TheVariants as post
 use Rattle.grammar.specs.declared.leaves.Suffix.TheVariants as suffix
 use Rattle.grammar.specs.Operators.{operators, first_of, any_of, is_assignment}
 use Rattle.grammar.specs.Leaves.{prefix_by, prefix_past, prefix_of, member_by, instance_past, postfix_by, postfix_past, postfix_of}
 use Rattle.grammar.specs.LinkLaws.{sign_of, link_at, link_sign}
+use Rattle.grammar.specs.declared.leaves.Postfix.{Postfix}
+use Rattle.grammar.specs.declared.leaves.Prefix.{Prefix}
 use Rattle.makers.specs.Plain.{near_of, Rests, EndsBy, Over}
 
 -- ---- past one space
@@ -69,7 +69,7 @@ near_pass s at p = go (eqb (byte_at s p.offset) 32) refl
     go false e = refl
 
 -- what looks at where blanks end alone does not see where they began
-module _ {X : Type 0} (f : Must → X) (a b : Place) (same : (q : Place) → f (Taken a q) ≡ f (Taken b q)) where
+module _ {X : Type 0} (f : Must → X) (a b : Place) (same : (q : Place) → f (taken a q) ≡ f (taken b q)) where
   either : (t : Bool) {x y x' y' : Must} → f x ≡ f x' → f y ≡ f y'
       → f (elim t as (λ u. Must) [ true ↦ x | false ↦ y ]) ≡ f (elim t as (λ u. Must) [ true ↦ x' | false ↦ y' ])
   either true e g = e
@@ -91,7 +91,7 @@ module _ {X : Type 0} (f : Must → X) (a b : Place) (same : (q : Place) → f (
       go (passing m) ih = ih m
 
 module _ (s : Text) (p : Place) where
-  near_alike : {X : Type 0} (f : Must → X) → ((a b q : Place) → f (Taken a q) ≡ f (Taken b q)) → f (blanks s p) ≡ f (blanks s (near_of s p))
+  near_alike : {X : Type 0} (f : Must → X) → ((a b q : Place) → f (taken a q) ≡ f (taken b q)) → f (blanks s p) ≡ f (blanks s (near_of s p))
   unfolding blanks
   near_alike f same =
       ap f (near_pass s p p) ∙ begun_alike f p (near_of s p) (same p (near_of s p)) (drop (near_of s p).offset s) between (near_of s p)
@@ -107,17 +107,17 @@ module _ (s : Text) (p : Place) where
 -- ---- no sign before an operand
 
 -- the two tests of `prefix_by`, apart from their bytes
-abbrev prefix_tests : Bool → Bool → ℕ → Place → Prefix
-prefix_tests x y b h = elim x [ true ↦ prefix.Wrong IncrementAsExpression h | false ↦ elim y [ true ↦ prefix.Sign b h (on_by 1 h) | false ↦ prefix.Other h ] ]
+abbrev prefix_tests : Bool → Bool → ℕ → Place → Result Prefix Refused
+prefix_tests x y b h = elim x [ true ↦ failed IncrementAsExpression h | false ↦ elim y [ true ↦ Ok (prefix.Sign b h (on_by 1 h)) | false ↦ Ok (prefix.Other h) ] ]
 
-prefix_other : (b c : ℕ) (h : Place) → (b ≡ 33 → ⊥) → (b ≡ 43 → ⊥) → (b ≡ 45 → ⊥) → prefix_by b c h ≡ prefix.Other h
+prefix_other : (b c : ℕ) (h : Place) → (b ≡ 33 → ⊥) → (b ≡ 43 → ⊥) → (b ≡ 45 → ⊥) → prefix_by b c h ≡ Ok (prefix.Other h)
 prefix_other b c h l m n =
     let x : ((eqb b 43 && eqb c 43) || (eqb b 45 && eqb c 45)) ≡ false = rw (ne_eqb b 43 m, ne_eqb b 45 n) refl in
     let y : (eqb b 33 || eqb b 45 || eqb b 43) ≡ false = rw (ne_eqb b 33 l, ne_eqb b 43 m, ne_eqb b 45 n) refl in
     ap (λ (t : Bool). prefix_tests t (eqb b 33 || eqb b 45 || eqb b 43) b h) x ∙ ap (λ (t : Bool). prefix_tests false t b h) y
 
 -- a quote, a digit or a letter stands here: no blank, and no sign
-pub no_sign : (s : Text) (p : Place) → 33 < byte_at s p.offset → (byte_at s p.offset < 40) ⊎ (47 < byte_at s p.offset) → prefix_of s p ≡ prefix.Other p
+pub no_sign : (s : Text) (p : Place) → 33 < byte_at s p.offset → (byte_at s p.offset < 40) ⊎ (47 < byte_at s p.offset) → prefix_of s p ≡ Ok (prefix.Other p)
 unfolding prefix_of blanks
 no_sign s p h side =
     let b : ℕ = byte_at s p.offset in
@@ -151,17 +151,17 @@ abbrev rests_by : ℕ → ℕ → Bool
 rests_by b c = not (opens_blank b || opens_suffix b c)
 
 -- the tests of `postfix_by`, apart from their bytes
-abbrev postfix_tests : Text → Place → Bool → Bool → Bool → Bool → Bool → Postfix
+abbrev postfix_tests : Text → Place → Bool → Bool → Bool → Bool → Bool → Result Postfix Refused
 postfix_tests s h call index dot class double =
     elim call [
-      | true ↦ post.More (suffix.Call h (on_by 1 h))
+      | true ↦ Ok (post.More (suffix.Call h (on_by 1 h)))
       | false ↦ elim index [
-        | true ↦ post.More (suffix.Index h (on_by 1 h))
+        | true ↦ Ok (post.More (suffix.Index h (on_by 1 h)))
         | false ↦ elim dot [
           | true ↦ member_by h (name s (on_by 1 h))
           | false ↦ elim class [
             | true ↦ instance_past s h (blanks s (on_by 10 h))
-            | false ↦ elim double [ true ↦ post.Wrong PostfixIncrement (on_by 2 h) | false ↦ post.Rest h ]
+            | false ↦ elim double [ true ↦ failed PostfixIncrement (on_by 2 h) | false ↦ Ok (post.Rest h) ]
           ]
         ]
       ]
@@ -183,7 +183,7 @@ module _ (s : Text) (h : Place) (b c : ℕ) (e : b ≡ byte_at s h.offset) (n : 
       go true i false j = refl
       go false i y j = refl
 
-  no_suffix : postfix_by s b c h ≡ post.Rest h
+  no_suffix : postfix_by s b c h ≡ Ok (post.Rest h)
   no_suffix =
       let class : Bool = is_keyword s h (ascii "instanceof") in
       let double : Bool = (eqb b 43 && eqb c 43) || (eqb b 45 && eqb c 45) in
@@ -198,7 +198,7 @@ module _ (s : Text) (h : Place) (b c : ℕ) (e : b ≡ byte_at s h.offset) (n : 
       ∙ ap (postfix_tests s h false false false false) y
 
 -- two bytes tell
-rest_at : {s : Text} {p : Place} {b c : ℕ} → ByteOf s p.offset b → c ≡ byte_at s (p.offset + 1) → rests_by b c ≡ true → postfix_of s p ≡ post.Rest p
+rest_at : {s : Text} {p : Place} {b c : ℕ} → ByteOf s p.offset b → c ≡ byte_at s (p.offset + 1) → rests_by b c ≡ true → postfix_of s p ≡ Ok (post.Rest p)
 unfolding postfix_of
 rest_at {s} {p} {b} {c} g f h =
     let z = neither (opens_blank b) (opens_suffix b c) h in

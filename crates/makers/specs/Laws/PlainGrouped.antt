@@ -6,7 +6,7 @@ use Rattle.std.proofs.Math.Path.{subst⁻¹}
 use Rattle.characters.specs.declared.place.Place.{Place}
 use Rattle.reading.specs.declared.node.Node.{Node}
 use Rattle.reading.specs.declared.tally.Tally.{Tally}
-use Rattle.reading.specs.declared.answer.Out.{Out}
+use Rattle.reading.specs.Outs.{Out}
 use Rattle.reading.specs.Events.{Event, End, Done, Stop, Crossed, Spent, Outcome, steps}
 use Rattle.reading.specs.Limits.{Limits, limited}
 use Rattle.reading.specs.Process.{Process, Grammar, bind, joined, after, under, run}

@@ -1,16 +1,16 @@
 -- Laws of plain operands: what shows that one stands at a place and was laid. Assumes nothing.
-use Rattle.std.specs.Prelude.{◌≡◌, refl, Bool, true, false, ◌&&◌, List, ◌⊎◌, ℕ, ◌+◌, ◌-◌, ◌*◌, ◌≤◌, ◌<◌, leb, length}
+use Rattle.std.specs.Prelude.{◌≡◌, refl, Bool, true, false, ◌&&◌, List, ◌⊎◌, ℕ, ◌+◌, ◌-◌, ◌*◌, ◌≤◌, ◌<◌, leb, length, Ok}
 use Rattle.std.proofs.Common.{sym, ap, ◌∙◌, inl, inr, arith, leb-true, le-leb, ne_eqb}
 use Rattle.std.proofs.Math.Path.{subst⁻¹}
 use Rattle.std.proofs.lemmas.Bool.{lt-leb}
 use Rattle.characters.specs.declared.place.Place.{Place}
-use Rattle.characters.specs.declared.tokens.Must.TheVariants.{Taken}
 use Rattle.characters.specs.Text.{Text, byte_at, ByteOf, on_by, Stands}
 use Rattle.characters.specs.PlaceLaws.{on_by_stands}
 use Rattle.characters.specs.Counts.{end_of}
 use Rattle.characters.specs.CountLaws.{end_inside, run_bytes}
 use Rattle.characters.specs.Names.{is_digit, is_letter, is_name_byte, part, word_of}
 use Rattle.characters.specs.NameLaws.{letter_is_name, name_byte_low, name_by_end, end_past_letter}
+use Rattle.characters.specs.Answers.{taken}
 use Rattle.literals.specs.Strings.{is_quote}
 use Rattle.literals.specs.Plain.{int_end, float_end, IntOf, string_end}
 use Rattle.literals.specs.PlainLaws.{IsInt, is_int_lem, IsFloat, is_float_lem, IsString, is_string, digit_bounds, quote_is, plain_number, plain_float, plain_string, string_inside}
@@ -70,7 +70,7 @@ span_row_lem {s} {p} {to} {word} k h v i e f =
 
 -- a leaf of some bytes that no sign stands before
 leaf_made : {s : Text} {at : Place} {made bytes x : ℕ} {w : Row} {A B : List ℕ} (k : Kind) (v : ℕ) → Stands s at → 1 ≤ bytes → at.offset + bytes ≤ length s
-    → 33 < byte_at s at.offset → (byte_at s at.offset < 40) ⊎ (47 < byte_at s at.offset) → atom_of s at ≡ Leaf k v (on_by bytes at) → w ≡ leaf_row k at v
+    → 33 < byte_at s at.offset → (byte_at s at.offset < 40) ⊎ (47 < byte_at s at.offset) → atom_of s at ≡ Ok (Leaf k v (on_by bytes at)) → w ≡ leaf_row k at v
     → Lays made w x A B → Plain s (made + 1) at made bytes A B
 leaf_made {s} {at} {made} {bytes} {x} {w} {A} {B} k v h some inside low side e f l =
     record {
@@ -127,7 +127,7 @@ name_ends {s} {at} h e f =
 -- the word with this number is a leaf of this kind and value
 named_made : {s : Text} {at : Place} {made to k r x : ℕ} {w : Row} {A B : List ℕ} (number : ℕ) (kind : Kind) (v : ℕ) → Stands s at
     → is_letter (byte_at s at.offset) ≡ true → to ≡ end_of is_name_byte s at.offset → k ≡ word_of (part s at.offset to) → k ≡ number
-    → word_atom number at (on_by (to - at.offset) at) ≡ Leaf kind v (on_by (to - at.offset) at)
+    → word_atom number at (on_by (to - at.offset) at) ≡ Ok (Leaf kind v (on_by (to - at.offset) at))
     → w ≡ leaf_row kind at v → Lays made w x A B → r ≡ to - at.offset → Plain s (made + 1) at made r A B
 unfolding atom_of
 named_made {s} {at} {made} {to} {k} {r} {x} {w} {A} {B} number kind v h letter ends word is leaf row lays e =
@@ -142,7 +142,7 @@ named_made {s} {at} {made} {to} {k} {r} {x} {w} {A} {B} number kind v h letter e
     subst⁻¹ (λ (y : ℕ). Plain s (made + 1) at made y A B) e
     (leaf_made kind v h (omega arith) (omega arith) (omega arith) (inr (omega arith))
     (atom_letter s b at (letter_no_digit b letter) letter
-    ∙ ap (name_atom s) (name_by_end s at letter ∙ ap (λ (o : ℕ). Taken at (on_by (o - at.offset) at)) (sym ends))
+    ∙ ap (name_atom s) (name_by_end s at letter ∙ ap (λ (o : ℕ). taken at (on_by (o - at.offset) at)) (sym ends))
     ∙ ap (λ (y : ℕ). word_atom y at q) n
     ∙ leaf)
     row
@@ -155,7 +155,7 @@ module _ {s : Text} {at : Place} {made to k r x : ℕ} {w : Row} {A B : List ℕ
   name_made is short f row =
       named_made 0 kinds.Name (spanned at to) h letter ends word is refl (span_row_lem kinds.Name short h (name_ends h letter ends) f row) lays e
 
-  pub word_made : (number : ℕ) (kind : Kind) → k ≡ number → word_atom number at (on_by (to - at.offset) at) ≡ Leaf kind 0 (on_by (to - at.offset) at)
+  pub word_made : (number : ℕ) (kind : Kind) → k ≡ number → word_atom number at (on_by (to - at.offset) at) ≡ Ok (Leaf kind 0 (on_by (to - at.offset) at))
       → w ≡ row_of kind at 0 0 0 → Plain s (made + 1) at made r A B
   word_made number kind is leaf row = named_made number kind 0 h letter ends word is leaf row lays e
 
@@ -179,7 +179,7 @@ number_made {s} {at} {made} {to} {v} {r} {x} {w} {A} {B} h ends some value row l
     (leaf_made kinds.Int v h (omega arith) (omega arith) (omega arith) (inr (omega arith))
     (atom_digit s b at digit
     ∙ ap (number_atom at) (plain_number s at to i)
-    ∙ ap (λ (y : ℕ). Leaf kinds.Int y (on_by (to - at.offset) at)) (sym value.is))
+    ∙ ap (λ (y : ℕ). Ok (Leaf kinds.Int y (on_by (to - at.offset) at))) (sym value.is))
     row
     lays)
 

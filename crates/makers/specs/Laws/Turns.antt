@@ -5,7 +5,7 @@ use Rattle.characters.specs.declared.place.Place.{Place}
 use Rattle.characters.specs.Text.{Text, Stands}
 use Rattle.characters.specs.PlaceLaws.{Reached, Advanced, reached_here, reached_on, advanced_reached}
 use Rattle.reading.specs.declared.tally.Tally.{Tally}
-use Rattle.reading.specs.declared.answer.Out.{Out}
+use Rattle.reading.specs.Outs.{Out}
 use Rattle.reading.specs.Process.{Grammar}
 use Rattle.reading.specs.Says.{Does}
 use Rattle.records.specs.Rows.{layout}

@@ -1,24 +1,20 @@
 -- THE READERS OF FUNCTIONS, LAMBDAS AND BLOCKS: each return of theirs, and of the loop over a block's statements, of which what is left answers
 -- for the whole. Assumes nothing.
 use Rattle.std.specs.Prelude.{◌≡◌, refl, List, [], ◌∷◌, ℕ, suc, ◌+◌, ◌-◌, ◌≤◌, ◌<◌, ◌^◌, length}
-use Rattle.std.proofs.Common.{sym, ap, subst, ◌∙◌, arith}
+use Rattle.std.proofs.Common.{sym, subst, ◌∙◌, arith}
 use Rattle.std.proofs.Math.Path.{subst⁻¹}
 use Rattle.characters.specs.declared.place.Place.{Place}
 use Rattle.characters.specs.declared.refusal.Refusal.{Refusal}
-use Rattle.characters.specs.declared.tokens.Look.{Look}
-use Rattle.characters.specs.declared.tokens.Look.TheVariants.{Found, Missing, Halted}
-use Rattle.characters.specs.declared.tokens.Must.{Must}
-use Rattle.characters.specs.declared.tokens.Must.TheVariants.{Taken, Failed}
 use Rattle.characters.specs.Text.{Text, on_by}
 use Rattle.characters.specs.PlaceLaws.{Reached, Advanced, advanced_on, reached_on, advanced_reached}
 use Rattle.characters.specs.Tokens.{token, expected}
 use Rattle.reading.specs.declared.tally.Tally.{Tally}
-use Rattle.reading.specs.declared.answer.Got.{Got}
-use Rattle.reading.specs.declared.answer.Got.TheVariants.{Read, Refused}
-use Rattle.reading.specs.declared.answer.Out.{Out}
+use Rattle.reading.specs.Gots.{Got}
+use Rattle.reading.specs.Gots.{Read, Refused}
+use Rattle.reading.specs.Outs.{Out}
 use Rattle.reading.specs.Process.{Process, make, call, bind, plain}
 use Rattle.reading.specs.Says.{Does}
-use Rattle.reading.proofs.Laws.Does.{then, stops, found, missing, halted, taken, enter}
+use Rattle.reading.proofs.Laws.Does.{then, stops, by_found, by_missing, by_halted, by_taken, by_failed, enter}
 use Rattle.records.specs.declared.row.Row.{Row}
 use Rattle.records.specs.declared.kind.Kind.TheVariants as kinds
 use Rattle.records.specs.Rows.{layout, record_of}
@@ -32,13 +28,14 @@ use Rattle.grammar.specs.Functions.{parameters_p, block_row, block_item_p, state
 use Rattle.grammar.specs.Grammar.{grammar}
 use Rattle.grammar.specs.Reads.{Ready, Reads}
 use Rattle.grammar.specs.ReadLaws.{read_ends, moved_on, reads_on, reads_then, reads_stop, refuses, reads_make, ready_then, ready_at}
-use Rattle.makers.specs.declared.answers.Items.{Items}
-use Rattle.makers.specs.declared.answers.Items.TheVariants as items
-use Rattle.makers.specs.Duties.{last_of, Acts, Lists, ListsAlone, refused_by}
+use Rattle.makers.specs.Answers.Items.{Items}
+use Rattle.makers.specs.Answers.Items as items
+use Rattle.makers.specs.Duties.{last_of, Acts, Lists, ListsAlone}
 use Rattle.makers.specs.Laws.Acts.{acts_reads, need_on, reads_refused}
 use Rattle.makers.specs.Laws.Turns.{Turning, turn_first, turn_on, turn_fuel, turn_less, same_turns}
 use Rattle.readers.specs.Rules.{BarAt}
-use Rattle.readers.specs.Laws.Answers.{ready_missing, reads_found, reads_missing, reads_halted, reads_refused_by, list_then, list_stop, list_ready}
+use Rattle.readers.specs.Laws.Answers.{ready_missing, reads_found, reads_missing, reads_halted, list_then, list_stop, list_ready}
+use Rattle.characters.specs.Answers.{Looked, Must, failed, found, missing, taken}
 
 -- ---- parameters
 
@@ -88,17 +85,17 @@ module _ {s : Text} {cap comps left : ℕ} {at : Place} {t : Tally} {A : List �
 
 -- ---- result: block | expression, which the lambda at `from` returns
 
-module _ {s : Text} {cap comps left : ℕ} (from : Place) {at : Place} {t : Tally} {A : List ℕ} (g : Ready s A cap at t) {l : Look} (e : l ≡ token s at (123 ∷ [])) where
-  pub result_halts : {k : Refusal} {q : Place} → l ≡ Halted k q → Reads s cap comps left at t (lambda_body_p s from at) (Refused k q t) A A
+module _ {s : Text} {cap comps left : ℕ} (from : Place) {at : Place} {t : Tally} {A : List ℕ} (g : Ready s A cap at t) {l : Looked} (e : l ≡ token s at (123 ∷ [])) where
+  pub result_halts : {k : Refusal} {q : Place} → l ≡ failed k q → Reads s cap comps left at t (lambda_body_p s from at) (Refused k q t) A A
   unfolding lambda_body_p
   result_halts f = reads_halted at 123 e f
 
-  pub result_block : {h n : Place} {r : Got} {B : List ℕ} → l ≡ Found h n → Reads s cap comps left n t (block_p s h n) r A B
+  pub result_block : {h n : Place} {r : Got} {B : List ℕ} → l ≡ found h n → Reads s cap comps left n t (block_p s h n) r A B
       → Reads s cap comps left at t (lambda_body_p s from at) r A B
   unfolding lambda_body_p
   result_block f d = reads_found at 123 e g.stands f d
 
-  module _ {h : Place} (f : l ≡ Missing h) {r : Got} {B : List ℕ} (d : Reads s cap comps left h t (call expression h) r A B) where
+  module _ {h : Place} (f : l ≡ missing h) {r : Got} {B : List ℕ} (d : Reads s cap comps left h t (call expression h) r A B) where
     pub result_stops : {k : Refusal} {p : Place} {u : Tally} → r ≡ Refused k p u → Reads s cap comps left at t (lambda_body_p s from at) r A B
     unfolding lambda_body_p implied_return_p
     result_stops x = reads_missing at 123 e g.stands f (reads_stop x d)
@@ -115,15 +112,15 @@ module _ {s : Text} {cap comps left : ℕ} (from : Place) {at : Place} {t : Tall
 
 -- the `(`, and what is read on after it, after the parameters and after the `{`
 module _ {s : Text} {cap : ℕ} {at : Place} {t : Tally} {A : List ℕ} (g : Ready s A cap at t) {l : Must} (e : l ≡ expected s at (40 ∷ [])) where
-  function_past : {h next : Place} → l ≡ Taken h next → at.offset ≤ next.offset
+  function_past : {h next : Place} → l ≡ taken h next → at.offset ≤ next.offset
   function_past f = let z = (need_on at 40 e g.stands f).further in omega arith
 
 module _ {s : Text} {cap comps left : ℕ} {q : Place} {u : Tally} {B : List ℕ} (g : Ready s B cap q u) {m : Must} (i : m ≡ expected s q (123 ∷ [])) where
   -- its block, after the `{`
-  function_body : {k inside : Place} {r : Got} {C : List ℕ} → m ≡ Taken k inside → Reads s cap comps left inside u (block_p s k inside) r B C
+  function_body : {k inside : Place} {r : Got} {C : List ℕ} → m ≡ taken k inside → Reads s cap comps left inside u (block_p s k inside) r B C
       → Reads s cap comps left q u (body_block_p s q) r B C
   unfolding body_block_p
-  function_body {inside = inside} j b = let z = (need_on q 123 i g.stands j).further in reads_on {low = inside} (taken i j) (omega arith) b
+  function_body {inside = inside} j b = let z = (need_on q 123 i g.stands j).further in reads_on {low = inside} (by_taken i j) (omega arith) b
 
 module _ {s : Text} {cap comps left : ℕ} {from : Place} {name : ℕ} {at : Place} {t : Tally} {A : List ℕ} (n : left ≡ 0 → ⊥) (g : Ready s A cap at t)
     {l : Must} (e : l ≡ expected s at (40 ∷ [])) where
@@ -133,28 +130,27 @@ module _ {s : Text} {cap comps left : ℕ} {from : Place} {name : ℕ} {at : Pla
   function_enters h = reads_on {from = at} {low = at} (enter n) (omega arith) h
 
   -- no `(`
-  pub function_fails : {k : Refusal} {q : Place} {r : Got} → l ≡ Failed k q → r ≡ refused_by l t
-      → Reads s cap comps left at t (call (function from name) at) r A A
-  function_fails f y = function_enters (unfold function_p in reads_refused_by e f y)
+  pub function_fails : {k : Refusal} {q : Place} → l ≡ failed k q
+      → Reads s cap comps left at t (call (function from name) at) (Refused k q t) A A
+  function_fails f = function_enters (unfold function_p in refuses (by_failed e f))
 
-  module _ {h next : Place} (f : l ≡ Taken h next) {o : Items} {B : List ℕ} (d : ListsAlone s cap comps next t (parameters_p s 41 next) o A B) where
+  module _ {h next : Place} (f : l ≡ taken h next) {o : Items} {B : List ℕ} (d : ListsAlone s cap comps next t (parameters_p s 41 next) o A B) where
     pub function_refused : {k : Refusal} {q : Place} {u : Tally} → o ≡ items.Refused k q u
         → Reads s cap comps left at t (call (function from name) at) (Refused k q u) A B
     function_refused x =
-        function_enters (unfold function_p in reads_on {low = next} (taken e f) (function_past g e f) (list_stop (d.lists (left - 1)) x))
+        function_enters (unfold function_p in reads_on {low = next} (by_taken e f) (function_past g e f) (list_stop (d.lists (left - 1)) x))
 
     module _ {q : Place} {last count : ℕ} {u : Tally} (x : o ≡ items.Read q last count u) {m : Must} (i : m ≡ expected s q (123 ∷ [])) where
       function_then : {r : Got} {Z : List ℕ} → Reads s cap comps (left - 1) q u (bind (body_block_p s q) (λ p y. fun_p from name (list_node last count q) y p)) r B Z
           → Reads s cap comps left at t (call (function from name) at) r A Z
-      function_then h = function_enters (unfold function_p in reads_on {low = next} (taken e f) (function_past g e f) (list_then (d.lists (left - 1)) x h))
+      function_then h = function_enters (unfold function_p in reads_on {low = next} (by_taken e f) (function_past g e f) (list_then (d.lists (left - 1)) x h))
 
       -- no `{`
-      pub function_bare : {k : Refusal} {p : Place} {r : Got} → m ≡ Failed k p → r ≡ refused_by m u
-          → Reads s cap comps left at t (call (function from name) at) r A B
-      function_bare j y =
-          function_then (reads_stop {low = q} (y ∙ ap (λ (z : Must). refused_by z u) j) (unfold body_block_p in reads_refused_by i j y))
+      pub function_bare : {k : Refusal} {p : Place} → m ≡ failed k p
+          → Reads s cap comps left at t (call (function from name) at) (Refused k p u) A B
+      function_bare j = function_then (reads_stop {low = q} refl (unfold body_block_p in refuses (by_failed i j)))
 
-      module _ {k inside : Place} (j : m ≡ Taken k inside) {r : Got} {C : List ℕ} (b : Reads s cap comps (left - 1) inside u (block_p s k inside) r B C) where
+      module _ {k inside : Place} (j : m ≡ taken k inside) {r : Got} {C : List ℕ} (b : Reads s cap comps (left - 1) inside u (block_p s k inside) r B C) where
         pub function_stops : {c : Refusal} {p : Place} {v : Tally} → r ≡ Refused c p v → Reads s cap comps left at t (call (function from name) at) r A C
         function_stops y = function_then (reads_stop y (function_body (params_ready d x g) i j b))
 
@@ -179,16 +175,16 @@ pub block_first : {s pool : List ℕ} {cap comps left : ℕ} {from at : Place} {
 block_first g = record { same = refl; ready = g; turn = turn_first g.stands; rest = λ r B d. unfold block_p in d }
 
 module _ {s pool₀ : List ℕ} {cap comps left : ℕ} {from at : Place} {t : Tally} {pool : List ℕ} {here : Place} {tally : Tally} {last : ℕ} (v : Blocking s pool₀ cap comps left from at t pool here tally last)
-    {l : Look} (e : l ≡ end_of s here) where
-  end_leads : {x : Look} → l ≡ x → EndOn s here x
+    {l : Looked} (e : l ≡ end_of s here) where
+  end_leads : {x : Looked} → l ≡ x → EndOn s here x
   end_leads f = subst (EndOn s here) (sym e ∙ f) (end_on s here v.ready.stands)
 
-  pub block_halts : {k : Refusal} {q : Place} → l ≡ Halted k q → Reads s cap comps left at t (block_p s from at) (Refused k q tally) pool₀ pool
+  pub block_halts : {k : Refusal} {q : Place} → l ≡ failed k q → Reads s cap comps left at t (block_p s from at) (Refused k q tally) pool₀ pool
   unfolding statements_p
-  block_halts f = refuses (v.rest _ _ (halted e f))
+  block_halts f = refuses (v.rest _ _ (by_halted e f))
 
   -- the closing sign
-  module _ {h n : Place} (f : l ≡ Found h n) where
+  module _ {h n : Place} (f : l ≡ found h n) where
     block_end : Reached s here n
     block_end = let g = end_leads f in reached_on g.0 (advanced_reached g.1)
 
@@ -198,17 +194,17 @@ module _ {s pool₀ : List ℕ} {cap comps left : ℕ} {from at : Place} {t : Ta
     block_ends i m =
         let a = block_end.further in
         let b = v.turn.place.further in
-        reads_on {low = n} (λ o. v.rest _ _ (found e f o)) (omega arith) (reads_make (ready_at v.ready block_end.stands) (row_as i m))
+        reads_on {low = n} (λ o. v.rest _ _ (by_found e f o)) (omega arith) (reads_make (ready_at v.ready block_end.stands) (row_as i m))
 
   -- a statement
-  module _ {h : Place} (f : l ≡ Missing h) where
+  module _ {h : Place} (f : l ≡ missing h) where
     pub block_here : Ready s pool cap h tally
     block_here = ready_at v.ready (end_leads f).stands
 
     module _ {o : Got} {mid : List ℕ} (d : Reads s cap comps left (on_by 1 h) tally (call statement h) o pool mid) where
       pub block_stops : {k : Refusal} {p : Place} {u : Tally} → o ≡ Refused k p u → Reads s cap comps left at t (block_p s from at) o pool₀ mid
       unfolding statements_p block_item_p
-      block_stops g = reads_refused g (v.rest _ _ (missing e f (stops (stops (refused_of g d.does)))))
+      block_stops g = reads_refused g (v.rest _ _ (by_missing e f (stops (stops (refused_of g d.does)))))
 
       module _ {q : Place} {u : Tally} (g : o ≡ Read q u) where
         -- what its item is made with
@@ -223,7 +219,7 @@ module _ {s pool₀ : List ℕ} {cap comps left : ℕ} {from at : Place} {t : Ta
           -- no room for it
           pub block_full : {k : Refusal} {p : Place} {x : Tally} → r ≡ Refused k p x → Reads s cap comps left at t (block_p s from at) r pool₀ after
           unfolding statements_p
-          block_full i = reads_refused i (v.rest _ _ (missing e f (stops (refused_of i item_here.does))))
+          block_full i = reads_refused i (v.rest _ _ (by_missing e f (stops (refused_of i item_here.does))))
 
           module _ {p : Place} {x : Tally} (i : r ≡ Read p x) where
             block_further : Advanced s here p
@@ -242,7 +238,7 @@ module _ {s pool₀ : List ℕ} {cap comps left : ℕ} {from at : Place} {t : Ta
                   turn = turn_on v.turn w;
                   rest = λ a B y.
                       v.rest a B
-                      (missing e f
+                      (by_missing e f
                       (then (read_of i item_here.does)
                       (same_turns (λ n. statements_p n s from x.records p) (turn_fuel v.turn w) y)));
                 }

@@ -5,18 +5,16 @@ use Rattle.std.proofs.Common.{sym, subst, ◌∙◌, arith}
 use Rattle.characters.specs.declared.place.Place.{Place}
 use Rattle.characters.specs.declared.refusal.Refusal.{Refusal}
 use Rattle.characters.specs.declared.refusal.Refusal.TheVariants.{TooDeep}
-use Rattle.characters.specs.declared.tokens.Look.{Look}
-use Rattle.characters.specs.declared.tokens.Look.TheVariants.{Found, Missing, Halted}
 use Rattle.characters.specs.Text.{Text, Stands}
 use Rattle.characters.specs.PlaceLaws.{Reached, Advanced, reached_on, advanced_on, advanced_reached}
 use Rattle.characters.specs.Tokens.{token}
 use Rattle.reading.specs.declared.tally.Tally.{Tally}
-use Rattle.reading.specs.declared.answer.Got.{Got}
-use Rattle.reading.specs.declared.answer.Got.TheVariants.{Read, Refused}
-use Rattle.reading.specs.declared.answer.Out.{Out}
+use Rattle.reading.specs.Gots.{Got}
+use Rattle.reading.specs.Gots.{Read, Refused}
+use Rattle.reading.specs.Outs.{Out}
 use Rattle.reading.specs.Process.{make, call}
 use Rattle.reading.specs.Says.{Does}
-use Rattle.reading.proofs.Laws.Does.{by_done, then, stops, found, missing, halted, too_deep}
+use Rattle.reading.proofs.Laws.Does.{by_done, then, stops, by_found, by_missing, by_halted, too_deep}
 use Rattle.records.specs.declared.row.Row.{Row}
 use Rattle.records.specs.Rows.{layout, record_of}
 use Rattle.records.specs.Nodes.{MakesRow}
@@ -28,22 +26,23 @@ use Rattle.grammar.specs.Expressions.{expression, turns, item_row, element_p, li
 use Rattle.grammar.specs.Grammar.{grammar}
 use Rattle.grammar.specs.Reads.{Ready, Reads}
 use Rattle.grammar.specs.ReadLaws.{read_ends, reads_then, reads_stop, refuses, reads_make, ready_then, ready_at}
-use Rattle.makers.specs.declared.answers.Items.TheVariants as items
+use Rattle.makers.specs.Answers.Items as items
 use Rattle.makers.specs.Duties.{last_of, Acts, Lists}
 use Rattle.makers.specs.Laws.Acts.{acts_reads}
 use Rattle.makers.specs.Laws.Turns.{Turning, turn_first, turn_on, turn_fuel, turn_less, same_turns}
 use Rattle.readers.specs.Laws.Answers.{ready_missing, reads_found, reads_missing, reads_halted}
+use Rattle.characters.specs.Answers.{Looked, failed, found, missing}
 
 -- ---- list: { expression ',' } [ expression ] end
 
 -- where the closing sign and the comma lead
-close_found : {s : Text} {p h n : Place} {l : Look} (b : ℕ) → Stands s p → l ≡ close_of s p b → l ≡ Found h n → Reached s p n
+close_found : {s : Text} {p h n : Place} {l : Looked} (b : ℕ) → Stands s p → l ≡ close_of s p b → l ≡ found h n → Reached s p n
 close_found {s} {p} b v e f = advanced_reached (subst (CloseOn s p) (sym e ∙ f) (close_on s p b v))
 
-close_missing : {s : Text} {p h : Place} {l : Look} (b : ℕ) → Stands s p → l ≡ close_of s p b → l ≡ Missing h → Reached s p h
+close_missing : {s : Text} {p h : Place} {l : Looked} (b : ℕ) → Stands s p → l ≡ close_of s p b → l ≡ missing h → Reached s p h
 close_missing {s} {p} b v e f = (subst (CloseOn s p) (sym e ∙ f) (close_on s p b v)).0
 
-follow_on : {s : Text} {p : Place} {l x : Look} (b : ℕ) → Stands s p → l ≡ follow_of s p b → l ≡ x → FollowOn s p x
+follow_on : {s : Text} {p : Place} {l x : Looked} (b : ℕ) → Stands s p → l ≡ follow_of s p b → l ≡ x → FollowOn s p x
 follow_on {s} {p} b v e f = subst (FollowOn s p) (sym e ∙ f) (follow_leads s p b v)
 
 -- what its reader keeps: what is left of the list answers for the whole
@@ -67,23 +66,23 @@ module _ {s pool₀ : List ℕ} {cap comps left end : ℕ} {at : Place} {t : Tal
       let c = v.ready.short in
       omega arith
 
-  module _ {l : Look} (e : l ≡ close_of s here end) where
-    pub list_halts : {k : Refusal} {q : Place} → l ≡ Halted k q
+  module _ {l : Looked} (e : l ≡ close_of s here end) where
+    pub list_halts : {k : Refusal} {q : Place} → l ≡ failed k q
         → Lists s cap comps left at t (list_p (turns s) s end 0 0 at) (items.Refused k q tally) pool₀ pool
     unfolding list_p
-    list_halts f = record { does = v.rest _ _ (halted e f); ends = tt }
+    list_halts f = record { does = v.rest _ _ (by_halted e f); ends = tt }
 
     -- the closing sign
-    pub list_ends : {h n : Place} → l ≡ Found h n → Lists s cap comps left at t (list_p (turns s) s end 0 0 at) (items.Read n last count tally) pool₀ pool
+    pub list_ends : {h n : Place} → l ≡ found h n → Lists s cap comps left at t (list_p (turns s) s end 0 0 at) (items.Read n last count tally) pool₀ pool
     unfolding list_p
     list_ends f =
         record {
-          does = v.rest _ _ (found e f by_done);
+          does = v.rest _ _ (by_found e f by_done);
           ends = record { reached = reached_on v.turn.place (close_found _ v.ready.stands e f); ids = v.ready.ids };
         }
 
     -- an element
-    module _ {h : Place} (f : l ≡ Missing h) where
+    module _ {h : Place} (f : l ≡ missing h) where
       pub list_here : Ready s pool cap h tally
       list_here = ready_at v.ready (close_missing _ v.ready.stands e f).stands
 
@@ -91,7 +90,7 @@ module _ {s pool₀ : List ℕ} {cap comps left end : ℕ} {at : Place} {t : Tal
         pub list_refused : {k : Refusal} {p : Place} {u : Tally} → o ≡ Refused k p u
             → Lists s cap comps left at t (list_p (turns s) s end 0 0 at) (items.Refused k p u) pool₀ mid
         unfolding list_p
-        list_refused g = record { does = v.rest _ _ (missing e f (stops (refused_of g d.does))); ends = tt }
+        list_refused g = record { does = v.rest _ _ (by_missing e f (stops (refused_of g d.does))); ends = tt }
 
         module _ {q : Place} {u : Tally} (g : o ≡ Read q u) where
           pub list_next : Ready s mid cap q u
@@ -100,18 +99,18 @@ module _ {s pool₀ : List ℕ} {cap comps left end : ℕ} {at : Place} {t : Tal
           list_past : Reached s here q
           list_past = reached_on (close_missing _ v.ready.stands e f) (read_ends g d).reached
 
-          module _ {m : Look} (a : m ≡ follow_of s q end) where
-            pub list_follow_halts : {k : Refusal} {p : Place} → m ≡ Halted k p
+          module _ {m : Looked} (a : m ≡ follow_of s q end) where
+            pub list_follow_halts : {k : Refusal} {p : Place} → m ≡ failed k p
                 → Lists s cap comps left at t (list_p (turns s) s end 0 0 at) (items.Refused k p u) pool₀ mid
             unfolding list_p
-            list_follow_halts b = record { does = v.rest _ _ (missing e f (then (read_of g d.does) (halted a b))); ends = tt }
+            list_follow_halts b = record { does = v.rest _ _ (by_missing e f (then (read_of g d.does) (by_halted a b))); ends = tt }
 
-            pub list_follow_ends : {p n : Place} → m ≡ Found p n
+            pub list_follow_ends : {p n : Place} → m ≡ found p n
                 → Lists s cap comps left at t (list_p (turns s) s end 0 0 at) (items.Read n u.records (count + 1) u) pool₀ mid
             unfolding list_p
             list_follow_ends b =
                 record {
-                  does = v.rest _ _ (missing e f (then (read_of g d.does) (found a b by_done)));
+                  does = v.rest _ _ (by_missing e f (then (read_of g d.does) (by_found a b by_done)));
                   ends =
                       record {
                         reached = reached_on (reached_on v.turn.place list_past) (advanced_reached (follow_on _ list_next.stands a b));
@@ -120,7 +119,7 @@ module _ {s pool₀ : List ℕ} {cap comps left end : ℕ} {at : Place} {t : Tal
                 }
 
             -- a comma: the list goes on
-            module _ {n : Place} (b : m ≡ Missing n) where
+            module _ {n : Place} (b : m ≡ missing n) where
               list_further : Advanced s here n
               list_further = advanced_on list_past (follow_on _ list_next.stands a b)
 
@@ -140,9 +139,9 @@ module _ {s pool₀ : List ℕ} {cap comps left end : ℕ} {at : Place} {t : Tal
                     few = omega arith;
                     rest = λ r B x.
                         v.rest r B
-                        (missing e f
+                        (by_missing e f
                         (then (read_of g d.does)
-                        (missing a b (same_turns (λ f. list_p f s end u.records (count + 1) n) (turn_fuel v.turn w) x))));
+                        (by_missing a b (same_turns (λ f. list_p f s end u.records (count + 1) n) (turn_fuel v.turn w) x))));
                   }
 
 -- ---- element: expression, and its item
@@ -167,17 +166,17 @@ module _ {s : Text} {cap comps left : ℕ} {at : Place} {t : Tally} (last : ℕ)
 
 -- ---- value: [ ':' expression ]; the implied `true` stands at the dictionary
 
-module _ {s : Text} {cap comps left : ℕ} (from : Place) {at : Place} {t : Tally} {A : List ℕ} (g : Ready s A cap at t) {l : Look} (e : l ≡ token s at (58 ∷ [])) where
-  pub value_halts : {k : Refusal} {q : Place} → l ≡ Halted k q → Reads s cap comps left at t (value_p s from at) (Refused k q t) A A
+module _ {s : Text} {cap comps left : ℕ} (from : Place) {at : Place} {t : Tally} {A : List ℕ} (g : Ready s A cap at t) {l : Looked} (e : l ≡ token s at (58 ∷ [])) where
+  pub value_halts : {k : Refusal} {q : Place} → l ≡ failed k q → Reads s cap comps left at t (value_p s from at) (Refused k q t) A A
   unfolding value_p
   value_halts f = reads_halted at 58 e f
 
-  pub value_read : {h n : Place} {r : Got} {B : List ℕ} → l ≡ Found h n → Reads s cap comps left n t (call expression n) r A B
+  pub value_read : {h n : Place} {r : Got} {B : List ℕ} → l ≡ found h n → Reads s cap comps left n t (call expression n) r A B
       → Reads s cap comps left at t (value_p s from at) r A B
   unfolding value_p
   value_read f d = reads_found at 58 e g.stands f d
 
-  pub value_implied : {h : Place} {w : Row} {r : Got} {B : List ℕ} → l ≡ Missing h → w ≡ true_row from → MakesRow cap t h w r A B
+  pub value_implied : {h : Place} {w : Row} {r : Got} {B : List ℕ} → l ≡ missing h → w ≡ true_row from → MakesRow cap t h w r A B
       → Reads s cap comps left at t (value_p s from at) r A B
   unfolding value_p
   value_implied f i m = reads_missing at 58 e g.stands f (reads_make (ready_missing at 58 e g f) (row_as i m))

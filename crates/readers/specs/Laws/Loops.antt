@@ -3,30 +3,27 @@ use Rattle.std.specs.Prelude.{◌≡◌, refl, List, [], ◌∷◌, ℕ, zero, s
 use Rattle.std.proofs.Common.{sym, ap, subst, ◌∙◌, arith}
 use Rattle.characters.specs.declared.place.Place.{Place}
 use Rattle.characters.specs.declared.refusal.Refusal.{Refusal}
-use Rattle.characters.specs.declared.tokens.Look.{Look}
-use Rattle.characters.specs.declared.tokens.Look.TheVariants.{Found, Missing, Halted}
-use Rattle.characters.specs.declared.tokens.Must.{Must}
-use Rattle.characters.specs.declared.tokens.Must.TheVariants.{Taken, Failed}
 use Rattle.characters.specs.Text.{Text}
 use Rattle.characters.specs.Tokens.{token, expected}
 use Rattle.reading.specs.declared.node.Node.{Node}
 use Rattle.reading.specs.declared.tally.Tally.{Tally}
-use Rattle.reading.specs.declared.answer.Out.TheVariants as out
-use Rattle.reading.specs.declared.answer.Got.{Got}
-use Rattle.reading.specs.declared.answer.Got.TheVariants.{Read, Refused}
+use Rattle.reading.specs.Outs as out
+use Rattle.reading.specs.Gots.{Got}
+use Rattle.reading.specs.Gots.{Read, Refused}
 use Rattle.reading.specs.Process.{plain, done, call, look, must, bind}
-use Rattle.reading.proofs.Laws.Does.{by_done, told, found, missing, halted, taken, failed}
+use Rattle.reading.proofs.Laws.Does.{by_done, told, by_found, by_missing, by_halted, by_taken, by_failed}
 use Rattle.records.specs.Nodes.{node_at}
 use Rattle.records.proofs.Laws.Nodes.{read_of, refused_of}
 use Rattle.grammar.specs.Expressions.{Rule, expression, statement}
 use Rattle.grammar.specs.Statements.{absent, expr_or_assign_p, for_end_p, for_p, for_rest_p, first_part_p, test_part_p, third_part_p, control_body_p}
 use Rattle.grammar.specs.Reads.{Ready, Reads}
 use Rattle.grammar.specs.ReadLaws.{read_ends, reads_on, reads_then, reads_stop, reads_told, refuses, ready_then, ready_at}
-use Rattle.makers.specs.declared.answers.Part.{Part}
-use Rattle.makers.specs.declared.answers.Part.TheVariants as part
-use Rattle.makers.specs.Duties.{last_of, Acts, refused_by, part_at, Parts}
+use Rattle.makers.specs.Answers.Part.{Part}
+use Rattle.makers.specs.Answers.Part as part
+use Rattle.makers.specs.Duties.{last_of, Acts, part_at, Parts}
 use Rattle.makers.specs.Laws.Acts.{need_on, acts_reads, acts_stays}
-use Rattle.readers.specs.Laws.Answers.{sign_found, sign_missing, ready_missing, reads_refused_by, parts_told, parts_ready, parts_then}
+use Rattle.readers.specs.Laws.Answers.{sign_found, sign_missing, ready_missing, parts_told, parts_ready, parts_then}
+use Rattle.characters.specs.Answers.{Looked, Must, failed, found, missing, taken}
 
 -- ---- a part that may be left out: the sign b in its place, or what is read by `next`
 
@@ -40,24 +37,24 @@ pub part_number : (pool : List ℕ) (p : Place) (n : ℕ) → (part_at pool p n)
 part_number pool p zero = refl
 part_number pool p (suc n) = refl
 
-module _ {s A : List ℕ} {cap : ℕ} {at : Place} {t : Tally} (g : Ready s A cap at t) (b : ℕ) {l : Look} (e : l ≡ token s at (b ∷ [])) where
+module _ {s A : List ℕ} {cap : ℕ} {at : Place} {t : Tally} (g : Ready s A cap at t) (b : ℕ) {l : Looked} (e : l ≡ token s at (b ∷ [])) where
   -- what it is read with
-  pub part_ready : {h : Place} → l ≡ Missing h → Ready s A cap h t
+  pub part_ready : {h : Place} → l ≡ missing h → Ready s A cap h t
   part_ready f = ready_missing at b e g f
 
   module _ {comps left : ℕ} {next : Place → Rule} where
-    pub part_halts : {k : Refusal} {q : Place} → l ≡ Halted k q
+    pub part_halts : {k : Refusal} {q : Place} → l ≡ failed k q
         → Parts s cap comps left at t (look (token s at (b ∷ [])) (λ h n. done n (absent n)) next) (part.Refused k q t) A A
-    part_halts f = record { does = halted e f; ends = tt }
+    part_halts f = record { does = by_halted e f; ends = tt }
 
-    pub part_absent : {h n : Place} → l ≡ Found h n
+    pub part_absent : {h n : Place} → l ≡ found h n
         → Parts s cap comps left at t (look (token s at (b ∷ [])) (λ h n. done n (absent n)) next) (part.Read n 0 t) A A
-    part_absent f = record { does = found e f by_done; ends = record { reached = sign_found at b e g.stands f; ids = g.ids } }
+    part_absent f = record { does = by_found e f by_done; ends = record { reached = sign_found at b e g.stands f; ids = g.ids } }
 
-    module _ {h low : Place} (f : l ≡ Missing h) (i : h.offset ≤ low.offset) {r : Got} {B : List ℕ} (d : Reads s cap comps left low t (next h) r A B) where
+    module _ {h low : Place} (f : l ≡ missing h) (i : h.offset ≤ low.offset) {r : Got} {B : List ℕ} (d : Reads s cap comps left low t (next h) r A B) where
       pub part_stops : {k : Refusal} {q : Place} {u : Tally} → r ≡ Refused k q u
           → Parts s cap comps left at t (look (token s at (b ∷ [])) (λ h n. done n (absent n)) next) (part.Refused k q u) A B
-      part_stops x = record { does = missing e f (refused_of x d.does); ends = tt }
+      part_stops x = record { does = by_missing e f (refused_of x d.does); ends = tt }
 
       pub part_read : {q : Place} {u : Tally} → r ≡ Read q u
           → Parts s cap comps left at t (look (token s at (b ∷ [])) (λ h n. done n (absent n)) next) (part.Read q u.records u) A B
@@ -66,7 +63,7 @@ module _ {s A : List ℕ} {cap : ℕ} {at : Place} {t : Tally} (g : Ready s A ca
           let j : at.offset ≤ h.offset = (sign_missing at b e g.stands f).further in
           let k : low.offset ≤ q.offset = z.reached.further in
           record {
-            does = missing e f (told (ap (λ (n : Node). out.Read q n u) (sym (part_node B q u.records z.made))) (read_of x d.does));
+            does = by_missing e f (told (ap (λ (n : Node). out.Read q n u) (sym (part_node B q u.records z.made))) (read_of x d.does));
             ends = record { reached = record { stands = z.reached.stands; further = omega arith }; ids = z.ids };
           }
 
@@ -96,14 +93,14 @@ module _ {s A B : List ℕ} {cap comps left : ℕ} {h : Place} {t : Tally} {r : 
   ended_stops x = reads_told x d
 
   module _ {q : Place} {u : Tally} (x : r ≡ Read q u) {l : Must} (e : l ≡ expected s q (59 ∷ [])) where
-    pub ended_fails : {k : Refusal} {p : Place} → l ≡ Failed k p → Reads s cap comps left h t (bind (call expression h) (λ q e. must (expected s q (59 ∷ [])) (λ k n. done n e))) (Refused k p u) A B
-    ended_fails f = reads_then x d (refuses (failed e f))
+    pub ended_fails : {k : Refusal} {p : Place} → l ≡ failed k p → Reads s cap comps left h t (bind (call expression h) (λ q e. must (expected s q (59 ∷ [])) (λ k n. done n e))) (Refused k p u) A B
+    ended_fails f = reads_then x d (refuses (by_failed e f))
 
-    pub ended_read : {k n : Place} → Ready s A cap h t → l ≡ Taken k n → Reads s cap comps left h t (bind (call expression h) (λ q e. must (expected s q (59 ∷ [])) (λ k n. done n e))) (Read n u) A B
+    pub ended_read : {k n : Place} → Ready s A cap h t → l ≡ taken k n → Reads s cap comps left h t (bind (call expression h) (λ q e. must (expected s q (59 ∷ [])) (λ k n. done n e))) (Read n u) A B
     ended_read g f =
         let z = ready_then g x d in
         let a = need_on q 59 e z.stands f in
-        reads_then x d (reads_on (taken e f) (let i = a.further in omega arith) (acts_reads (acts_stays (read_ends x d).made) (ready_at z a.stands)))
+        reads_then x d (reads_on (by_taken e f) (let i = a.further in omega arith) (acts_reads (acts_stays (read_ends x d).made) (ready_at z a.stands)))
 
 -- ---- third-part control-body, the first two parts read
 
@@ -140,28 +137,28 @@ module _ (one two : ℕ) (from : Place) {s A B : List ℕ} {cap comps left : ℕ
 
 -- ---- for: 'for' '(' first-part test-part third-part control-body, after the keyword
 
-for_opened : {s A : List ℕ} {cap : ℕ} {at h n : Place} {t : Tally} {l : Must} → Ready s A cap at t → l ≡ expected s at (40 ∷ []) → l ≡ Taken h n
+for_opened : {s A : List ℕ} {cap : ℕ} {at h n : Place} {t : Tally} {l : Must} → Ready s A cap at t → l ≡ expected s at (40 ∷ []) → l ≡ taken h n
     → at.offset ≤ n.offset
 for_opened {at = at} g e f = let i = (need_on at 40 e g.stands f).further in omega arith
 
-pub for_lacks : (from : Place) {s A : List ℕ} {cap comps left : ℕ} {at : Place} {t : Tally} {l : Must} {k : Refusal} {q : Place} {r : Got}
-    → l ≡ expected s at (40 ∷ []) → l ≡ Failed k q → r ≡ refused_by l t → Reads s cap comps left at t (for_p s from at) r A A
+pub for_lacks : (from : Place) {s A : List ℕ} {cap comps left : ℕ} {at : Place} {t : Tally} {l : Must} {k : Refusal} {q : Place}
+    → l ≡ expected s at (40 ∷ []) → l ≡ failed k q → Reads s cap comps left at t (for_p s from at) (Refused k q t) A A
 unfolding for_p
-for_lacks from e f z = reads_refused_by e f z
+for_lacks from e f = refuses (by_failed e f)
 
-module _ (from : Place) {s A B : List ℕ} {cap comps left : ℕ} {at h n : Place} {t : Tally} {l : Must} (g : Ready s A cap at t) (e : l ≡ expected s at (40 ∷ [])) (f : l ≡ Taken h n) {o : Part} (d : Parts s cap comps left n t (first_part_p s n) o A B) where
+module _ (from : Place) {s A B : List ℕ} {cap comps left : ℕ} {at h n : Place} {t : Tally} {l : Must} (g : Ready s A cap at t) (e : l ≡ expected s at (40 ∷ [])) (f : l ≡ taken h n) {o : Part} (d : Parts s cap comps left n t (first_part_p s n) o A B) where
   pub for_told : {j : Refusal} {p : Place} {u : Tally} → o ≡ part.Refused j p u → Reads s cap comps left at t (for_p s from at) (Refused j p u) A B
   unfolding for_p
-  for_told x = reads_on {low = n} (taken e f) (for_opened g e f) (parts_told d x)
+  for_told x = reads_on {low = n} (by_taken e f) (for_opened g e f) (parts_told d x)
 
   module _ {q : Place} {one : ℕ} {u : Tally} (x : o ≡ part.Read q one u) {b : Part} {C : List ℕ} (c : Parts s cap comps left q u (test_part_p s q) b B C) where
     pub for_stops : {j : Refusal} {p : Place} {v : Tally} → b ≡ part.Refused j p v → Reads s cap comps left at t (for_p s from at) (Refused j p v) A C
     unfolding for_p
-    for_stops y = reads_on (taken e f) (for_opened g e f) (parts_then d x (parts_told c y))
+    for_stops y = reads_on (by_taken e f) (for_opened g e f) (parts_then d x (parts_told c y))
 
     pub for_read : {p : Place} {two : ℕ} {v : Tally} {r : Got} {Z : List ℕ} → b ≡ part.Read p two v
         → Reads s cap comps left p v (for_rest_p s from (plain one p) (plain two p) p) r C Z → Reads s cap comps left at t (for_p s from at) r A Z
     unfolding for_p
     for_read {p} {two} {v} {r} {Z} y h =
-        reads_on (taken e f) (for_opened g e f)
+        reads_on (by_taken e f) (for_opened g e f)
         (parts_then d x (parts_then c y (subst (λ (P : Rule). Reads s cap comps left p v P r C Z) (rest_as s from B C q p p one two) h)))

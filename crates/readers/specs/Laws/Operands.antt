@@ -1,36 +1,31 @@
 -- THE READERS OF OPERANDS: each return of the readers of a choice, of prefixes, of postfixes and of atoms, and the loop over the suffixes, of
 -- which what is left answers for the whole. Assumes nothing.
-use Rattle.std.specs.Prelude.{◌≡◌, refl, List, [], ℕ, suc, ◌-◌, ◌≤◌, ◌<◌, length}
+use Rattle.std.specs.Prelude.{◌≡◌, refl, List, [], ℕ, suc, ◌-◌, ◌≤◌, ◌<◌, length, Ok, Result}
 use Rattle.std.proofs.Common.{sym, subst, ◌∙◌, arith, le-leb}
 use Rattle.std.proofs.Math.Path.{subst⁻¹}
 use Rattle.std.proofs.lemmas.Bool.{lt-leb}
 use Rattle.characters.specs.declared.place.Place.{Place}
 use Rattle.characters.specs.declared.refusal.Refusal.{Refusal}
 use Rattle.characters.specs.declared.refusal.Refusal.TheVariants.{TooDeep, TooManyArguments}
-use Rattle.characters.specs.declared.tokens.Must.{Must}
-use Rattle.characters.specs.declared.tokens.Must.TheVariants.{Taken, Failed}
 use Rattle.characters.specs.Text.{Text, Stands, ascii}
 use Rattle.characters.specs.PlaceLaws.{Advanced, reached_here, reached_on}
 use Rattle.characters.specs.Tokens.{expected}
 use Rattle.reading.specs.declared.node.Node.{Node}
 use Rattle.reading.specs.declared.tally.Tally.{Tally}
-use Rattle.reading.specs.declared.answer.Got.{Got}
-use Rattle.reading.specs.declared.answer.Got.TheVariants.{Read, Refused}
-use Rattle.reading.specs.declared.answer.Out.{Out}
+use Rattle.reading.specs.Gots.{Got}
+use Rattle.reading.specs.Gots.{Read, Refused}
+use Rattle.reading.specs.Outs.{Out}
 use Rattle.reading.specs.Process.{make, call, bind}
 use Rattle.reading.specs.Says.{Does}
-use Rattle.reading.proofs.Laws.Does.{by_done, by_stop, then, stops, along, yes_way, no_way, taken, too_deep, enter, does_more}
+use Rattle.reading.proofs.Laws.Does.{by_done, by_stop, then, stops, along, yes_way, no_way, by_taken, too_deep, enter, does_more}
 use Rattle.records.specs.declared.kind.Kind.{Kind}
 use Rattle.records.specs.declared.kind.Kind.TheVariants as kinds
 use Rattle.records.specs.declared.row.Row.{Row}
 use Rattle.records.specs.Rows.{Lent, layout, record_of}
 use Rattle.records.specs.Nodes.{row_like, MakesRow}
 use Rattle.records.proofs.Laws.Nodes.{place_kept, row_as, row_at_lem, does_keeps, does_length, read_of, refused_of}
-use Rattle.grammar.specs.declared.leaves.Atom.{Atom}
 use Rattle.grammar.specs.declared.leaves.Atom.TheVariants as atom
-use Rattle.grammar.specs.declared.leaves.Postfix.{Postfix}
 use Rattle.grammar.specs.declared.leaves.Postfix.TheVariants as post
-use Rattle.grammar.specs.declared.leaves.Prefix.{Prefix}
 use Rattle.grammar.specs.declared.leaves.Prefix.TheVariants as prefix
 use Rattle.grammar.specs.declared.leaves.Suffix.{Suffix}
 use Rattle.grammar.specs.declared.leaves.Suffix.TheVariants as suffix
@@ -41,13 +36,18 @@ use Rattle.grammar.specs.Expressions.{Rule, expression, operand, lambda, turns, 
 use Rattle.grammar.specs.Grammar.{grammar}
 use Rattle.grammar.specs.Reads.{Ready, Reads}
 use Rattle.grammar.specs.ReadLaws.{read_ends, reads_on, reads_then, reads_stop, refuses, reads_make, ready_then, ready_at, reads_leaf}
-use Rattle.makers.specs.declared.answers.Items.{Items}
-use Rattle.makers.specs.declared.answers.Items.TheVariants as items
+use Rattle.makers.specs.Answers.Items.{Items}
+use Rattle.makers.specs.Answers.Items as items
 use Rattle.makers.specs.Duties.{Begun, last_of, Room, Acts, Lists}
 use Rattle.makers.specs.Laws.Acts.{room_of, begun_then, acts_reads, reads_from, reads_refused, need_on, ready_need, reads_failed}
 use Rattle.makers.specs.Laws.Turns.{Turning, turn_first, turn_on, turn_fuel, turn_less, go_on, same_turns}
 use Rattle.readers.specs.Rules.{BarAt, suffix_at, SuffixBegun}
 use Rattle.readers.specs.Laws.Answers.{list_then, list_stop, list_ready}
+use Rattle.characters.specs.Answers.{Must, failed, taken}
+use Rattle.characters.specs.declared.refusal.Refused as struct
+use Rattle.grammar.specs.declared.leaves.Atom.{Atom}
+use Rattle.grammar.specs.declared.leaves.Postfix.{Postfix}
+use Rattle.grammar.specs.declared.leaves.Prefix.{Prefix}
 
 -- ---- choice: '?' expression ':' expression, the test read
 
@@ -58,11 +58,11 @@ module _ {s : Text} {cap comps left : ℕ} {at : Place} {t : Tally} {A B : List 
   choice_stops f = reads_stop f d
 
   module _ {q : Place} {u : Tally} (f : r ≡ Read q u) {l : Must} (e : l ≡ expected s q (ascii ":")) where
-    pub choice_fails : {j : Refusal} {p : Place} → l ≡ Failed j p → Reads s cap comps left at t (choice_p s (last_of A t) at) (Refused j p u) A B
+    pub choice_fails : {j : Refusal} {p : Place} → l ≡ failed j p → Reads s cap comps left at t (choice_p s (last_of A t) at) (Refused j p u) A B
     unfolding choice_p
     choice_fails x = reads_then f d (reads_failed q 58 e x)
 
-    module _ {h n : Place} (x : l ≡ Taken h n) where
+    module _ {h n : Place} (x : l ≡ taken h n) where
       -- what the last expression is called with
       pub choice_ready : Ready s B cap n u
       choice_ready = ready_need q 58 e (ready_then g.ready f d) x
@@ -73,7 +73,7 @@ module _ {s : Text} {cap comps left : ℕ} {at : Place} {t : Tally} {A B : List 
             → Reads s cap comps left n u (bind (call expression n) (λ q b. make q (record_of (row_of kinds.Choice (last_of A t).position t.records u.records b.number)) 0)) w B Z
             → Reads s cap comps left at t (choice_p s (last_of A t) at) w A Z
         unfolding choice_p
-        choice_on y = reads_then f d (reads_on (taken e x) (let k = (need_on q 58 e (read_ends f d).reached.stands x).further in omega arith) y)
+        choice_on y = reads_then f d (reads_on (by_taken e x) (let k = (need_on q 58 e (read_ends f d).reached.stands x).further in omega arith) y)
 
         pub choice_stops_last : {j : Refusal} {p : Place} {v : Tally} → o ≡ Refused j p v → Reads s cap comps left at t (choice_p s (last_of A t) at) o A C
         choice_stops_last y = choice_on (reads_stop y c)
@@ -93,34 +93,34 @@ module _ {s : Text} {cap comps left : ℕ} {at : Place} {t : Tally} {A B : List 
 
 -- ---- prefix: ( '!' | '-' | '+' ) prefix | postfix
 
-module _ {s : Text} {cap : ℕ} {at : Place} {t : Tally} {A : List ℕ} {b : Prefix} (g : Ready s A cap at t) (e : b ≡ prefix_of s at) where
-  prefix_leads : {x : Prefix} → b ≡ x → PrefixOn s at x
+module _ {s : Text} {cap : ℕ} {at : Place} {t : Tally} {A : List ℕ} {b : Result Prefix struct.Refused} (g : Ready s A cap at t) (e : b ≡ prefix_of s at) where
+  prefix_leads : {x : Result Prefix struct.Refused} → b ≡ x → PrefixOn s at x
   prefix_leads f = subst (PrefixOn s at) (sym e ∙ f) (prefix_on s at g.stands)
 
   -- what is read on past the blanks, and after a sign
-  pub prefix_ready : {h : Place} → b ≡ prefix.Other h → Ready s A cap h t
+  pub prefix_ready : {h : Place} → b ≡ Ok (prefix.Other h) → Ready s A cap h t
   prefix_ready f = ready_at g (prefix_leads f).stands
 
-  pub operand_ready : {sign : ℕ} {h n : Place} → b ≡ prefix.Sign sign h n → Ready s A cap n t
+  pub operand_ready : {sign : ℕ} {h n : Place} → b ≡ Ok (prefix.Sign sign h n) → Ready s A cap n t
   operand_ready f = ready_at g (prefix_leads f).1.stands
 
   module _ {comps left : ℕ} where
     -- the rule, by what stands there
-    prefix_as_lem : {x : Prefix} {o : Out} {Z : List ℕ} → b ≡ x → Does layout (grammar s) cap comps left t (prefix_as s x) o A Z
+    prefix_as_lem : {x : Result Prefix struct.Refused} {o : Out} {Z : List ℕ} → b ≡ x → Does layout (grammar s) cap comps left t (prefix_as s x) o A Z
         → Does layout (grammar s) cap comps left t (prefix_p s at) o A Z
     unfolding prefix_p
     prefix_as_lem f d = along (prefix_as s) (sym f ∙ e) d
 
-    pub prefix_wrong : {j : Refusal} {p : Place} → b ≡ prefix.Wrong j p → Reads s cap comps left at t (prefix_p s at) (Refused j p t) A A
+    pub prefix_wrong : {j : Refusal} {p : Place} → b ≡ failed j p → Reads s cap comps left at t (prefix_p s at) (Refused j p t) A A
     prefix_wrong f = refuses (prefix_as_lem f by_stop)
 
     -- no sign
-    pub prefix_other : {h : Place} {r : Got} {Z : List ℕ} → b ≡ prefix.Other h → Reads s cap comps left h t (postfix_p s h) r A Z
+    pub prefix_other : {h : Place} {r : Got} {Z : List ℕ} → b ≡ Ok (prefix.Other h) → Reads s cap comps left h t (postfix_p s h) r A Z
         → Reads s cap comps left at t (prefix_p s at) r A Z
     prefix_other f d = reads_on (prefix_as_lem f) (prefix_leads f).further d
 
     -- a sign, which takes a level
-    module _ {sign : ℕ} {h n : Place} (f : b ≡ prefix.Sign sign h n) where
+    module _ {sign : ℕ} {h n : Place} (f : b ≡ Ok (prefix.Sign sign h n)) where
       pub prefix_deep : left ≡ 0 → Reads s cap comps left at t (prefix_p s at) (Refused TooDeep n t) A A
       prefix_deep z = refuses (prefix_as_lem f (stops (too_deep z)))
 
@@ -179,7 +179,7 @@ posting_starts {s} {A} {cap} {comps} {left} {at} {t} g =
     record { same = refl; turn = turn_first g.ready.stands; begun = g; rest = λ o B d. d }
 
 -- a suffix reads something
-suffix_on : (s : Text) (p : Place) (one : Suffix) → PostfixOn s p (post.More one) → Advanced s p (suffix_at one)
+suffix_on : (s : Text) (p : Place) (one : Suffix) → PostfixOn s p (Ok (post.More one)) → Advanced s p (suffix_at one)
 suffix_on s p (suffix.Call h n) a = a.1
 suffix_on s p (suffix.Index h n) a = a.1
 suffix_on s p (suffix.Member h span n) a = a.1
@@ -191,29 +191,29 @@ module _ {s pool₀ : List ℕ} {cap comps left : ℕ} {at : Place} {t : Tally} 
   pub posting_called : Stands s here × (length s ≤ 65535)
   posting_called = (v.begun.ready.stands, v.begun.ready.short)
 
-  module _ {l : Postfix} (e : l ≡ postfix_of s here) where
-    posted : {x : Postfix} {o : Out} {B : List ℕ} → l ≡ x
+  module _ {l : Result Postfix struct.Refused} (e : l ≡ postfix_of s here) where
+    posted : {x : Result Postfix struct.Refused} {o : Out} {B : List ℕ} → l ≡ x
         → Does layout (grammar s) cap comps left tally (postfix_as s (last_of pool tally) x (postfixes_p v.turn.fuel s)) o pool B
         → Does layout (grammar s) cap comps left t (posts_from s pool₀ t at) o pool₀ B
     unfolding postfixes_p
-    posted {x} {o} {B} f d = v.rest o B (along (λ (y : Postfix). postfix_as s (last_of pool tally) y (postfixes_p v.turn.fuel s)) (sym f ∙ e) d)
+    posted {x} {o} {B} f d = v.rest o B (along (λ (y : Result Postfix struct.Refused). postfix_as s (last_of pool tally) y (postfixes_p v.turn.fuel s)) (sym f ∙ e) d)
 
-    post_leads : {x : Postfix} → l ≡ x → PostfixOn s here x
+    post_leads : {x : Result Postfix struct.Refused} → l ≡ x → PostfixOn s here x
     post_leads f = subst (PostfixOn s here) (sym e ∙ f) (postfix_on s here v.begun.ready.stands)
 
     -- nothing follows
-    pub posts_end : {q : Place} → l ≡ post.Rest q → Reads s cap comps left at t (posts_from s pool₀ t at) (Read q tally) pool₀ pool
+    pub posts_end : {q : Place} → l ≡ Ok (post.Rest q) → Reads s cap comps left at t (posts_from s pool₀ t at) (Read q tally) pool₀ pool
     posts_end f =
         record {
           does = posted f by_done;
           ends = record { reached = reached_on v.turn.place (post_leads f); made = v.begun.some; ids = v.begun.ready.ids };
         }
 
-    pub posts_wrong : {j : Refusal} {q : Place} → l ≡ post.Wrong j q → Reads s cap comps left at t (posts_from s pool₀ t at) (Refused j q tally) pool₀ pool
+    pub posts_wrong : {j : Refusal} {q : Place} → l ≡ failed j q → Reads s cap comps left at t (posts_from s pool₀ t at) (Refused j q tally) pool₀ pool
     posts_wrong f = refuses (posted f by_stop)
 
     -- a suffix
-    module _ {one : Suffix} (f : l ≡ post.More one) where
+    module _ {one : Suffix} (f : l ≡ Ok (post.More one)) where
       suffix_leads : Advanced s here (suffix_at one)
       suffix_leads = suffix_on s here one (post_leads f)
 
@@ -298,70 +298,70 @@ module _ {s : Text} {cap comps left : ℕ} {at : Place} {t : Tally} {A B : List 
   index_stops f = reads_stop f d
 
   module _ {q : Place} {u : Tally} (f : r ≡ Read q u) {l : Must} (e : l ≡ expected s q (ascii "]")) where
-    pub index_fails : {j : Refusal} {p : Place} → l ≡ Failed j p → Reads s cap comps left at t (index_p s base here at) (Refused j p u) A B
+    pub index_fails : {j : Refusal} {p : Place} → l ≡ failed j p → Reads s cap comps left at t (index_p s base here at) (Refused j p u) A B
     unfolding index_p
     index_fails x = reads_then f d (reads_failed q 93 e x)
 
-    pub index_made : {h n : Place} {w : Row} {o : Got} {Z : List ℕ} → Ready s A cap at t → l ≡ Taken h n
+    pub index_made : {h n : Place} {w : Row} {o : Got} {Z : List ℕ} → Ready s A cap at t → l ≡ taken h n
         → w ≡ row_of kinds.Index here base.number u.records 0 → MakesRow cap u n w o B Z
         → Reads s cap comps left at t (index_p s base here at) o A Z
     unfolding index_p
     index_made g x z m =
         reads_then f d
-        (reads_on (taken e x) (let k = (need_on q 93 e (read_ends f d).reached.stands x).further in omega arith)
+        (reads_on (by_taken e x) (let k = (need_on q 93 e (read_ends f d).reached.stands x).further in omega arith)
         (reads_make (ready_need q 93 e (ready_then g f d) x) (row_as z m)))
 
 -- ---- atom: literal | name | '$' name | '(' expression ')' | '[' list | '{' dictionary | lambda
 
-module _ {s : Text} {cap : ℕ} {at : Place} {t : Tally} {A : List ℕ} {a : Atom} (g : Ready s A cap at t) (e : a ≡ atom_of s at) where
+module _ {s : Text} {cap : ℕ} {at : Place} {t : Tally} {A : List ℕ} {a : Result Atom struct.Refused} (g : Ready s A cap at t) (e : a ≡ atom_of s at) where
   -- what is read on after a leaf, or after a sign that opens
-  atom_next : {x : Atom} → a ≡ x → AtomOn s at x
+  atom_next : {x : Result Atom struct.Refused} → a ≡ x → AtomOn s at x
   atom_next f = atom_at g.stands e f
 
-  pub paren_ready : {n : Place} → a ≡ atom.Paren n → Ready s A cap n t
+  pub paren_ready : {n : Place} → a ≡ Ok (atom.Paren n) → Ready s A cap n t
   paren_ready f = ready_at g (atom_next f).stands
 
-  pub bracket_ready : {n : Place} → a ≡ atom.Bracket n → Ready s A cap n t
+  pub bracket_ready : {n : Place} → a ≡ Ok (atom.Bracket n) → Ready s A cap n t
   bracket_ready f = ready_at g (atom_next f).stands
 
-  pub brace_ready : {n : Place} → a ≡ atom.Brace n → Ready s A cap n t
+  pub brace_ready : {n : Place} → a ≡ Ok (atom.Brace n) → Ready s A cap n t
   brace_ready f = ready_at g (atom_next f).stands
 
-  pub lambda_called : a ≡ atom.Bar → Ready s A cap at t × BarAt s at
+  pub lambda_called : a ≡ Ok atom.Bar → Ready s A cap at t × BarAt s at
   lambda_called f = (g, record { after = (atom_next f).stands })
 
   module _ {comps left : ℕ} where
     -- the rule, by what stands there
-    atom_as_lem : {x : Atom} {o : Out} {Z : List ℕ} → a ≡ x → Does layout (grammar s) cap comps left t (atom_as s at x) o A Z
+    atom_as_lem : {x : Result Atom struct.Refused} {o : Out} {Z : List ℕ} → a ≡ x → Does layout (grammar s) cap comps left t (atom_as s at x) o A Z
         → Does layout (grammar s) cap comps left t (atom_p s at) o A Z
     unfolding atom_p
     atom_as_lem f d = along (atom_as s at) (sym f ∙ e) d
 
-    pub atom_wrong : {j : Refusal} {p : Place} → a ≡ atom.Wrong j p → Reads s cap comps left at t (atom_p s at) (Refused j p t) A A
+    pub atom_wrong : {j : Refusal} {p : Place} → a ≡ failed j p → Reads s cap comps left at t (atom_p s at) (Refused j p t) A A
     atom_wrong f = refuses (atom_as_lem f by_stop)
 
     -- one record
-    pub atom_made : {k : Kind} {v : ℕ} {n : Place} {w : Row} {r : Got} {Z : List ℕ} → a ≡ atom.Leaf k v n → w ≡ leaf_row k at v → MakesRow cap t n w r A Z
+    pub atom_made : {k : Kind} {v : ℕ} {n : Place} {w : Row} {r : Got} {Z : List ℕ} → a ≡ Ok (atom.Leaf k v n) → w ≡ leaf_row k at v → MakesRow cap t n w r A Z
         → Reads s cap comps left at t (atom_p s at) r A Z
     atom_made f z m =
         let o = (atom_next f).1 in
         reads_from (let i = o.further in omega arith) (reads_leaf at (sym e ∙ f) (ready_at g o.stands) (row_as z m))
 
     -- what a sign opens
-    pub atom_paren : {n : Place} {r : Got} {Z : List ℕ} → a ≡ atom.Paren n → Reads s cap comps left n t (paren_p s n) r A Z
+    pub atom_paren : {n : Place} {r : Got} {Z : List ℕ} → a ≡ Ok (atom.Paren n) → Reads s cap comps left n t (paren_p s n) r A Z
         → Reads s cap comps left at t (atom_p s at) r A Z
     atom_paren f d = reads_on (atom_as_lem f) (let i = (atom_next f).further in omega arith) d
 
-    pub atom_bracket : {n : Place} {r : Got} {Z : List ℕ} → a ≡ atom.Bracket n → Reads s cap comps left n t (array_p s at n) r A Z
+    pub atom_bracket : {n : Place} {r : Got} {Z : List ℕ} → a ≡ Ok (atom.Bracket n) → Reads s cap comps left n t (array_p s at n) r A Z
         → Reads s cap comps left at t (atom_p s at) r A Z
     atom_bracket f d = reads_on (atom_as_lem f) (let i = (atom_next f).further in omega arith) d
 
-    pub atom_brace : {n : Place} {r : Got} {Z : List ℕ} → a ≡ atom.Brace n → Reads s cap comps left n t (dict_p (turns s) s at [] 0 n) r A Z
+    pub atom_brace : {n : Place} {r : Got} {Z : List ℕ} → a ≡ Ok (atom.Brace n) → Reads s cap comps left n t (dict_p (turns s) s at [] 0 n) r A Z
         → Reads s cap comps left at t (atom_p s at) r A Z
     atom_brace f d = reads_on (atom_as_lem f) (let i = (atom_next f).further in omega arith) d
 
     -- a lambda, and the closure of it
-    module _ {r : Got} {B : List ℕ} (f : a ≡ atom.Bar) (d : Reads s cap comps left at t (call lambda at) r A B) where
+    module _ {r : Got} {B : List ℕ} (f : a ≡ Ok atom.Bar) (d : Reads s cap comps left at t (call lambda at) r A B) where
       closure_on : {w : Got} {Z : List ℕ} → Reads s cap comps left at t (closure_p at) w A Z → Reads s cap comps left at t (atom_p s at) w A Z
       closure_on x = reads_on {from = at} {low = at} (atom_as_lem f) (omega arith) x
 
@@ -383,18 +383,18 @@ module _ {s : Text} {cap comps left : ℕ} {at : Place} {t : Tally} {A B : List 
   paren_stops f = reads_stop f d
 
   module _ {q : Place} {u : Tally} (f : r ≡ Read q u) {l : Must} (e : l ≡ expected s q (ascii ")")) where
-    pub paren_fails : {j : Refusal} {p : Place} → l ≡ Failed j p → Reads s cap comps left at t (paren_p s at) (Refused j p u) A B
+    pub paren_fails : {j : Refusal} {p : Place} → l ≡ failed j p → Reads s cap comps left at t (paren_p s at) (Refused j p u) A B
     unfolding paren_p
     paren_fails x = reads_then f d (reads_failed q 41 e x)
 
     -- the expression's record is still the last
-    pub paren_read : {h n : Place} → l ≡ Taken h n → Reads s cap comps left at t (paren_p s at) (Read n u) A B
+    pub paren_read : {h n : Place} → l ≡ taken h n → Reads s cap comps left at t (paren_p s at) (Read n u) A B
     unfolding paren_p
     paren_read {h} {n} x =
         let o = read_ends f d in
         let k = need_on q 41 e o.reached.stands x in
         reads_then f d
-        (reads_on {low = n} (taken e x) (let i = k.further in omega arith)
+        (reads_on {low = n} (by_taken e x) (let i = k.further in omega arith)
         (record { does = by_done; ends = record { reached = reached_here k.stands; made = o.made; ids = o.ids } }))
 
 -- ---- array: '[' list

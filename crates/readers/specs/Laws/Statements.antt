@@ -1,31 +1,24 @@
 -- THE READERS OF STATEMENTS: what each of their returns comes to, and what the next reader is called with. Assumes nothing.
-use Rattle.std.specs.Prelude.{◌≡◌, List, [], ◌∷◌, ℕ, ◌-◌, ◌≤◌}
+use Rattle.std.specs.Prelude.{◌≡◌, List, [], ◌∷◌, ℕ, ◌-◌, ◌≤◌, Err, Ok, Result}
 use Rattle.std.proofs.Common.{sym, subst, ◌∙◌, arith, eq-eqb, ne_eqb}
 use Rattle.std.proofs.Math.Path.{ap, subst⁻¹}
 use Rattle.characters.specs.declared.place.Place.{Place}
 use Rattle.characters.specs.declared.refusal.Refusal.{Refusal}
 use Rattle.characters.specs.declared.refusal.Refusal.TheVariants.{DeclarationAsBody}
-use Rattle.characters.specs.declared.tokens.Look.{Look}
-use Rattle.characters.specs.declared.tokens.Look.TheVariants.{Found, Missing, Halted}
-use Rattle.characters.specs.declared.tokens.Must.{Must}
-use Rattle.characters.specs.declared.tokens.Must.TheVariants.{Taken, Failed}
 use Rattle.characters.specs.Text.{Text, Stands, ascii, on_by}
 use Rattle.characters.specs.PlaceLaws.{Reached, Advanced, reached_here, reached_on}
 use Rattle.characters.specs.Tokens.{token, keyword, expected}
 use Rattle.characters.specs.TokenLaws.{TokenOn, keyword_on}
 use Rattle.reading.specs.declared.tally.Tally.{Tally}
-use Rattle.reading.specs.declared.answer.Got.{Got}
-use Rattle.reading.specs.declared.answer.Got.TheVariants.{Read, Refused}
+use Rattle.reading.specs.Gots.{Got}
+use Rattle.reading.specs.Gots.{Read, Refused}
 use Rattle.reading.specs.Process.{call, plain}
-use Rattle.reading.proofs.Laws.Does.{by_done, by_stop, along, yes_way, no_way, found, missing, halted, taken, failed, enter}
+use Rattle.reading.proofs.Laws.Does.{by_done, by_stop, along, yes_way, no_way, by_found, by_missing, by_halted, by_taken, by_failed, enter}
 use Rattle.records.specs.declared.kind.Kind.TheVariants as kinds
 use Rattle.records.specs.declared.row.Row.{Row}
 use Rattle.records.specs.Nodes.{kind_at, place_at, MakesRow}
 use Rattle.records.proofs.Laws.Nodes.{row_as}
-use Rattle.grammar.specs.declared.heads.StatementHead.{StatementHead}
 use Rattle.grammar.specs.declared.heads.StatementHead.TheVariants as head
-use Rattle.grammar.specs.declared.heads.LetHead.{LetHead}
-use Rattle.grammar.specs.declared.heads.LetHead.TheVariants as lets
 use Rattle.grammar.specs.Leaves.{row_of}
 use Rattle.grammar.specs.Heads.{name_of, head_of, let_of}
 use Rattle.grammar.specs.HeadLaws.{NameOn, name_of_on, HeadOn, head_on, LetOn, let_on}
@@ -38,67 +31,72 @@ use Rattle.grammar.specs.ReadLaws.{read_ends, reads_on, reads_then, reads_stop, 
 use Rattle.makers.specs.Duties.{last_of, Acts}
 use Rattle.makers.specs.Laws.Acts.{acts_reads, reads_from, ready_need, reads_taken, reads_failed}
 use Rattle.readers.specs.Laws.Answers.{sign_found, sign_missing}
+use Rattle.characters.specs.Answers.{Looked, Must, failed, found, missing, taken}
+use Rattle.characters.specs.declared.refusal.Refused as struct
+use Rattle.grammar.specs.Answers.{lets_name}
+use Rattle.grammar.specs.declared.heads.LetHead.{LetHead}
+use Rattle.grammar.specs.declared.heads.StatementHead.{StatementHead}
 
 -- ---- where a token leads
 
-word_found : {s : Text} {at h n : Place} {l : Look} (w : Text) → Stands s at → l ≡ keyword s at w → l ≡ Found h n → Reached s at n
+word_found : {s : Text} {at h n : Place} {l : Looked} (w : Text) → Stands s at → l ≡ keyword s at w → l ≡ found h n → Reached s at n
 word_found {s} {at} w v e f = let z = subst (TokenOn s at w) (sym e ∙ f) (keyword_on s at w v) in reached_on z.0 z.1
 
-word_missing : {s : Text} {at h : Place} {l : Look} (w : Text) → Stands s at → l ≡ keyword s at w → l ≡ Missing h → Reached s at h
+word_missing : {s : Text} {at h : Place} {l : Looked} (w : Text) → Stands s at → l ≡ keyword s at w → l ≡ missing h → Reached s at h
 word_missing {s} {at} w v e f = subst (TokenOn s at w) (sym e ∙ f) (keyword_on s at w v)
 
 -- ---- statement: return | break | continue | if | loop | while | for | assert | let | fun | block | expr-or-assign
 
 -- from where it is read on, and what its reader has reached: one that begins with no keyword says itself that it moves on
-abbrev pub head_next : Place → StatementHead → Place
-head_next at (head.Return h n) = n
-head_next at (head.Break h n) = n
-head_next at (head.Continue h n) = n
-head_next at (head.If h n) = n
-head_next at (head.Loop h n) = n
-head_next at (head.While h n) = n
-head_next at (head.For h n) = n
-head_next at (head.Assert h n) = n
-head_next at (head.Let h n) = n
-head_next at (head.Fun h n) = n
-head_next at (head.Block h n) = n
-head_next at (head.ExprOrAssign h) = h
-head_next at (head.Wrong k q) = at
+abbrev pub head_next : Place → Result StatementHead struct.Refused → Place
+head_next at (Ok (head.Return h n)) = n
+head_next at (Ok (head.Break h n)) = n
+head_next at (Ok (head.Continue h n)) = n
+head_next at (Ok (head.If h n)) = n
+head_next at (Ok (head.Loop h n)) = n
+head_next at (Ok (head.While h n)) = n
+head_next at (Ok (head.For h n)) = n
+head_next at (Ok (head.Assert h n)) = n
+head_next at (Ok (head.Let h n)) = n
+head_next at (Ok (head.Fun h n)) = n
+head_next at (Ok (head.Block h n)) = n
+head_next at (Ok (head.ExprOrAssign h)) = h
+head_next at (Err e) = at
 
-abbrev pub head_past : Place → StatementHead → Place
-head_past at (head.Return h n) = n
-head_past at (head.Break h n) = n
-head_past at (head.Continue h n) = n
-head_past at (head.If h n) = n
-head_past at (head.Loop h n) = n
-head_past at (head.While h n) = n
-head_past at (head.For h n) = n
-head_past at (head.Assert h n) = n
-head_past at (head.Let h n) = n
-head_past at (head.Fun h n) = n
-head_past at (head.Block h n) = n
-head_past at (head.ExprOrAssign h) = on_by 1 h
-head_past at (head.Wrong k q) = on_by 1 at
+abbrev pub head_past : Place → Result StatementHead struct.Refused → Place
+head_past at (Ok (head.Return h n)) = n
+head_past at (Ok (head.Break h n)) = n
+head_past at (Ok (head.Continue h n)) = n
+head_past at (Ok (head.If h n)) = n
+head_past at (Ok (head.Loop h n)) = n
+head_past at (Ok (head.While h n)) = n
+head_past at (Ok (head.For h n)) = n
+head_past at (Ok (head.Assert h n)) = n
+head_past at (Ok (head.Let h n)) = n
+head_past at (Ok (head.Fun h n)) = n
+head_past at (Ok (head.Block h n)) = n
+head_past at (Ok (head.ExprOrAssign h)) = on_by 1 h
+head_past at (Err e) = on_by 1 at
 
 over : {s : Text} {at h n : Place} → Reached s at h × Advanced s h n → Stands s n × ((on_by 1 at).offset ≤ n.offset)
 over g = let a = g.0.further in let b = g.1.further in (g.1.stands, omega arith)
 
-head_leads : {s : Text} {at : Place} (x : StatementHead) → Stands s at → HeadOn s at x → Stands s (head_next at x) × ((on_by 1 at).offset ≤ (head_past at x).offset)
-head_leads (head.Return h n) v g = over g
-head_leads (head.Break h n) v g = over g
-head_leads (head.Continue h n) v g = over g
-head_leads (head.If h n) v g = over g
-head_leads (head.Loop h n) v g = over g
-head_leads (head.While h n) v g = over g
-head_leads (head.For h n) v g = over g
-head_leads (head.Assert h n) v g = over g
-head_leads (head.Let h n) v g = over g
-head_leads (head.Fun h n) v g = over g
-head_leads (head.Block h n) v g = over g
-head_leads (head.ExprOrAssign h) v g = let a = g.further in (g.stands, omega arith)
-head_leads (head.Wrong k q) v g = (v, omega arith)
+head_leads : {s : Text} {at : Place} (x : Result StatementHead struct.Refused) → Stands s at → HeadOn s at x → Stands s (head_next at x) × ((on_by 1 at).offset ≤ (head_past at x).offset)
+head_leads (Ok (head.Return h n)) v g = over g
+head_leads (Ok (head.Break h n)) v g = over g
+head_leads (Ok (head.Continue h n)) v g = over g
+head_leads (Ok (head.If h n)) v g = over g
+head_leads (Ok (head.Loop h n)) v g = over g
+head_leads (Ok (head.While h n)) v g = over g
+head_leads (Ok (head.For h n)) v g = over g
+head_leads (Ok (head.Assert h n)) v g = over g
+head_leads (Ok (head.Let h n)) v g = over g
+head_leads (Ok (head.Fun h n)) v g = over g
+head_leads (Ok (head.Block h n)) v g = over g
+head_leads (Ok (head.ExprOrAssign h)) v g = let a = g.further in (g.stands, omega arith)
+head_leads (Err e) v g = (v, omega arith)
 
-module _ {s A : List ℕ} {cap : ℕ} {at : Place} {t : Tally} (g : Ready s A cap at t) {l x : StatementHead} (e : l ≡ head_of s at) (f : l ≡ x) where
+module _ {s A : List ℕ} {cap : ℕ} {at : Place} {t : Tally} (g : Ready s A cap at t) {l x : Result StatementHead struct.Refused} (e : l ≡ head_of s at) (f : l ≡ x) where
   head_here : HeadOn s at x
   head_here = subst (HeadOn s at) (sym e ∙ f) (head_on s at g.stands)
 
@@ -115,21 +113,21 @@ module _ {s A : List ℕ} {cap : ℕ} {at : Place} {t : Tally} (g : Ready s A ca
 
 -- ---- return: 'return' [ expression ] ';'
 
-module _ {s A : List ℕ} {cap : ℕ} {at : Place} {t : Tally} (g : Ready s A cap at t) {l : Look} (e : l ≡ token s at (59 ∷ [])) where
-  pub return_halts : {comps left : ℕ} {k : Refusal} {q : Place} (from : Place) → l ≡ Halted k q
+module _ {s A : List ℕ} {cap : ℕ} {at : Place} {t : Tally} (g : Ready s A cap at t) {l : Looked} (e : l ≡ token s at (59 ∷ [])) where
+  pub return_halts : {comps left : ℕ} {k : Refusal} {q : Place} (from : Place) → l ≡ failed k q
       → Reads s cap comps left at t (return_p s from at) (Refused k q t) A A
   unfolding return_p
-  return_halts from f = refuses (halted e f)
+  return_halts from f = refuses (by_halted e f)
 
   -- `return;`, and its implied `nil`
-  module _ {h n : Place} (f : l ≡ Found h n) where
+  module _ {h n : Place} (f : l ≡ found h n) where
     pub return_empty : Ready s A cap n t
     return_empty = ready_at g (sign_found at 59 e g.stands f).stands
 
     module _ (from : Place) {w : Row} {r : Got} {B : List ℕ} (i : w ≡ row_of kinds.Nil from 0 0 0) (m : MakesRow cap t n w r A B) where
       pub return_full : {comps left : ℕ} {k : Refusal} {p : Place} {u : Tally} → r ≡ Refused k p u → Reads s cap comps left at t (return_p s from at) r A B
       unfolding return_p
-      return_full x = reads_on {low = n} (found e f) (sign_found at 59 e g.stands f).further (reads_stop {low = n} x (reads_make return_empty (row_as i m)))
+      return_full x = reads_on {low = n} (by_found e f) (sign_found at 59 e g.stands f).further (reads_stop {low = n} x (reads_make return_empty (row_as i m)))
 
       module _ {p : Place} {u : Tally} (x : r ≡ Read p u) where
         pub return_made : Ready s B cap p u
@@ -139,41 +137,41 @@ module _ {s A : List ℕ} {cap : ℕ} {at : Place} {t : Tally} (g : Ready s A ca
             → Reads s cap comps left at t (return_p s from at) o A Z
         unfolding return_p
         return_nil j k =
-            reads_on {low = n} (found e f) (sign_found at 59 e g.stands f).further
+            reads_on {low = n} (by_found e f) (sign_found at 59 e g.stands f).further
             (reads_then x (reads_make return_empty (row_as i m)) (reads_make return_made (row_as j k)))
 
   -- what is returned
-  module _ {h : Place} (f : l ≡ Missing h) where
+  module _ {h : Place} (f : l ≡ missing h) where
     pub return_ready : Ready s A cap h t
     return_ready = ready_at g (sign_missing at 59 e g.stands f).stands
 
     module _ (from : Place) {comps left : ℕ} {r : Got} {B : List ℕ} (d : Reads s cap comps left h t (call expression h) r A B) where
       pub return_stops : {k : Refusal} {p : Place} {u : Tally} → r ≡ Refused k p u → Reads s cap comps left at t (return_p s from at) r A B
       unfolding return_p
-      return_stops x = reads_on {low = h} (missing e f) (sign_missing at 59 e g.stands f).further (reads_stop {low = h} x d)
+      return_stops x = reads_on {low = h} (by_missing e f) (sign_missing at 59 e g.stands f).further (reads_stop {low = h} x d)
 
       module _ {p : Place} {u : Tally} (x : r ≡ Read p u) {c : Must} (i : c ≡ expected s p (59 ∷ [])) where
-        pub return_fails : {k : Refusal} {q : Place} → c ≡ Failed k q → Reads s cap comps left at t (return_p s from at) (Refused k q u) A B
+        pub return_fails : {k : Refusal} {q : Place} → c ≡ failed k q → Reads s cap comps left at t (return_p s from at) (Refused k q u) A B
         unfolding return_p
-        return_fails j = reads_on {low = h} (missing e f) (sign_missing at 59 e g.stands f).further (reads_then x d (reads_failed p 59 i j))
+        return_fails j = reads_on {low = h} (by_missing e f) (sign_missing at 59 e g.stands f).further (reads_then x d (reads_failed p 59 i j))
 
-        pub return_read : {k n : Place} {w : Row} {o : Got} {Z : List ℕ} → c ≡ Taken k n → w ≡ row_of kinds.Return from u.records 0 0
+        pub return_read : {k n : Place} {w : Row} {o : Got} {Z : List ℕ} → c ≡ taken k n → w ≡ row_of kinds.Return from u.records 0 0
             → MakesRow cap u n w o B Z
             → Reads s cap comps left at t (return_p s from at) o A Z
         unfolding return_p
         return_read j y m =
             let b = ready_then return_ready x d in
-            reads_on {low = h} (missing e f) (sign_missing at 59 e g.stands f).further
+            reads_on {low = h} (by_missing e f) (sign_missing at 59 e g.stands f).further
             (reads_then x d (reads_from (omega arith) (reads_taken p 59 i b.stands j (reads_make (ready_need p 59 i b j) (row_as y m)))))
 
 -- ---- condition: '(' expression ')'
 
 module _ {s A : List ℕ} {cap : ℕ} {at : Place} {t : Tally} (g : Ready s A cap at t) {l : Must} (e : l ≡ expected s at (40 ∷ [])) where
-  pub condition_fails : {comps left : ℕ} {k : Refusal} {q : Place} → l ≡ Failed k q → Reads s cap comps left at t (condition_p s at) (Refused k q t) A A
+  pub condition_fails : {comps left : ℕ} {k : Refusal} {q : Place} → l ≡ failed k q → Reads s cap comps left at t (condition_p s at) (Refused k q t) A A
   unfolding condition_p
   condition_fails f = reads_failed at 40 e f
 
-  pub condition_read : {comps left : ℕ} {h n : Place} {r : Got} {B : List ℕ} → l ≡ Taken h n → Reads s cap comps left n t (paren_p s n) r A B
+  pub condition_read : {comps left : ℕ} {h n : Place} {r : Got} {B : List ℕ} → l ≡ taken h n → Reads s cap comps left n t (paren_p s n) r A B
       → Reads s cap comps left at t (condition_p s at) r A B
   unfolding condition_p
   condition_read f d = reads_from (omega arith) (reads_taken at 40 e g.stands f d)
@@ -224,21 +222,21 @@ module _ {s A B : List ℕ} {cap comps left : ℕ} {at : Place} {t : Tally} (fro
 
 -- ---- [ 'else' control-body ]
 
-module _ {s A : List ℕ} {cap : ℕ} {at : Place} {t : Tally} (g : Ready s A cap at t) {l : Look} (e : l ≡ keyword s at (ascii "else")) (from : Place) (test first : ℕ) where
-  pub else_halts : {comps left : ℕ} {k : Refusal} {q : Place} → l ≡ Halted k q
+module _ {s A : List ℕ} {cap : ℕ} {at : Place} {t : Tally} (g : Ready s A cap at t) {l : Looked} (e : l ≡ keyword s at (ascii "else")) (from : Place) (test first : ℕ) where
+  pub else_halts : {comps left : ℕ} {k : Refusal} {q : Place} → l ≡ failed k q
       → Reads s cap comps left at t (else_p s from (plain test at) (plain first at) at) (Refused k q t) A A
   unfolding else_p
-  else_halts f = refuses (halted e f)
+  else_halts f = refuses (by_halted e f)
 
-  pub else_none : {comps left : ℕ} {h : Place} {w : Row} {r : Got} {B : List ℕ} → l ≡ Missing h → w ≡ row_of kinds.If from test first 0
+  pub else_none : {comps left : ℕ} {h : Place} {w : Row} {r : Got} {B : List ℕ} → l ≡ missing h → w ≡ row_of kinds.If from test first 0
       → MakesRow cap t h w r A B
       → Reads s cap comps left at t (else_p s from (plain test at) (plain first at) at) r A B
   unfolding else_p
   else_none {h = h} f i m =
       let a = word_missing (ascii "else") g.stands e f in
-      reads_on {low = h} (missing e f) a.further (reads_make (ready_at g a.stands) (row_as i m))
+      reads_on {low = h} (by_missing e f) a.further (reads_make (ready_at g a.stands) (row_as i m))
 
-module _ {s A : List ℕ} {cap : ℕ} {at : Place} {t : Tally} (g : Ready s A cap at t) {l : Look} (e : l ≡ keyword s at (ascii "else")) {h n : Place} (f : l ≡ Found h n) where
+module _ {s A : List ℕ} {cap : ℕ} {at : Place} {t : Tally} (g : Ready s A cap at t) {l : Looked} (e : l ≡ keyword s at (ascii "else")) {h n : Place} (f : l ≡ found h n) where
   pub else_ready : Ready s A cap n t
   else_ready = ready_at g (word_found (ascii "else") g.stands e f).stands
 
@@ -246,14 +244,14 @@ module _ {s A : List ℕ} {cap : ℕ} {at : Place} {t : Tally} (g : Ready s A ca
     pub else_stops : {k : Refusal} {p : Place} {u : Tally} → r ≡ Refused k p u
         → Reads s cap comps left at t (else_p s from (plain test at) (plain first at) at) r A B
     unfolding else_p
-    else_stops x = reads_on {low = n} (found e f) (word_found (ascii "else") g.stands e f).further (reads_stop {low = n} x b)
+    else_stops x = reads_on {low = n} (by_found e f) (word_found (ascii "else") g.stands e f).further (reads_stop {low = n} x b)
 
     pub else_read : {p : Place} {u : Tally} {w : Row} {o : Got} {Z : List ℕ} → r ≡ Read p u → w ≡ row_of kinds.If from test first u.records
         → MakesRow cap u p w o B Z
         → Reads s cap comps left at t (else_p s from (plain test at) (plain first at) at) o A Z
     unfolding else_p
     else_read x i m =
-        reads_on {low = n} (found e f) (word_found (ascii "else") g.stands e f).further
+        reads_on {low = n} (by_found e f) (word_found (ascii "else") g.stands e f).further
         (reads_then x b (reads_make (ready_then else_ready x b) (row_as i m)))
 
 -- ---- loop: 'loop' control-body
@@ -296,11 +294,11 @@ module _ {s A B : List ℕ} {cap comps left : ℕ} {at : Place} {t : Tally} (fro
   assert_stops x = reads_stop {low = at} x d
 
   module _ {p : Place} {u : Tally} (x : r ≡ Read p u) {c : Must} (i : c ≡ expected s p (59 ∷ [])) where
-    pub assert_fails : {k : Refusal} {q : Place} → c ≡ Failed k q → Reads s cap comps left at t (assert_p s from at) (Refused k q u) A B
+    pub assert_fails : {k : Refusal} {q : Place} → c ≡ failed k q → Reads s cap comps left at t (assert_p s from at) (Refused k q u) A B
     unfolding assert_p
     assert_fails j = reads_then x d (reads_failed p 59 i j)
 
-    pub assert_read : {k n : Place} {w : Row} {o : Got} {Z : List ℕ} → Ready s A cap at t → c ≡ Taken k n → w ≡ row_of kinds.Assert from u.records 0 0
+    pub assert_read : {k n : Place} {w : Row} {o : Got} {Z : List ℕ} → Ready s A cap at t → c ≡ taken k n → w ≡ row_of kinds.Assert from u.records 0 0
         → MakesRow cap u n w o B Z
         → Reads s cap comps left at t (assert_p s from at) o A Z
     unfolding assert_p
@@ -310,13 +308,13 @@ module _ {s A B : List ℕ} {cap comps left : ℕ} {at : Place} {t : Tally} (fro
 
 -- ---- let: 'let' [ 'var' ] name '=' expression ';'
 
-module _ {s A : List ℕ} {cap : ℕ} {at : Place} {t : Tally} (g : Ready s A cap at t) {l : LetHead} (e : l ≡ let_of s at) where
-  pub let_wrong : {comps left : ℕ} {k : Refusal} {q : Place} (from : Place) → l ≡ lets.Wrong k q
+module _ {s A : List ℕ} {cap : ℕ} {at : Place} {t : Tally} (g : Ready s A cap at t) {l : Result LetHead struct.Refused} (e : l ≡ let_of s at) where
+  pub let_wrong : {comps left : ℕ} {k : Refusal} {q : Place} (from : Place) → l ≡ failed k q
       → Reads s cap comps left at t (let_p s from at) (Refused k q t) A A
   unfolding let_p
   let_wrong from f = refuses (along (let_as s from) (sym f ∙ e) by_stop)
 
-  module _ {mark span : ℕ} {n : Place} (f : l ≡ lets.Named mark span n) where
+  module _ {mark span : ℕ} {n : Place} (f : l ≡ lets_name mark span n) where
     let_leads : Advanced s at n
     let_leads = (subst (LetOn s at) (sym e ∙ f) (let_on s at g.stands)).0
 
@@ -324,7 +322,7 @@ module _ {s A : List ℕ} {cap : ℕ} {at : Place} {t : Tally} (g : Ready s A ca
     let_ready = ready_at g let_leads.stands
 
     module _ (from : Place) {comps left : ℕ} {r : Got} {B : List ℕ} (d : Reads s cap comps left n t (call expression n) r A B) where
-      let_by : {o : Got} {Z : List ℕ} → Reads s cap comps left n t (let_as s from (lets.Named mark span n)) o A Z
+      let_by : {o : Got} {Z : List ℕ} → Reads s cap comps left n t (let_as s from (lets_name mark span n)) o A Z
           → Reads s cap comps left at t (let_p s from at) o A Z
       unfolding let_p
       let_by h = reads_on {low = n} (along (let_as s from) (sym f ∙ e)) (let z = let_leads.further in omega arith) h
@@ -333,10 +331,10 @@ module _ {s A : List ℕ} {cap : ℕ} {at : Place} {t : Tally} (g : Ready s A ca
       let_stops x = let_by (reads_stop {low = n} x d)
 
       module _ {p : Place} {u : Tally} (x : r ≡ Read p u) {c : Must} (i : c ≡ expected s p (59 ∷ [])) where
-        pub let_fails : {k : Refusal} {q : Place} → c ≡ Failed k q → Reads s cap comps left at t (let_p s from at) (Refused k q u) A B
+        pub let_fails : {k : Refusal} {q : Place} → c ≡ failed k q → Reads s cap comps left at t (let_p s from at) (Refused k q u) A B
         let_fails j = let_by (reads_then x d (reads_failed p 59 i j))
 
-        pub let_read : {k m : Place} {w : Row} {o : Got} {Z : List ℕ} → c ≡ Taken k m → w ≡ row_of kinds.Let from mark span u.records
+        pub let_read : {k m : Place} {w : Row} {o : Got} {Z : List ℕ} → c ≡ taken k m → w ≡ row_of kinds.Let from mark span u.records
             → MakesRow cap u m w o B Z
             → Reads s cap comps left at t (let_p s from at) o A Z
         unfolding declare_p
@@ -351,13 +349,13 @@ module _ {s A : List ℕ} {cap : ℕ} {at : Place} {t : Tally} (g : Ready s A ca
 -- ---- fun: 'fun' name function
 
 module _ {s A : List ℕ} {cap : ℕ} {at : Place} {t : Tally} (g : Ready s A cap at t) {l : Must} (e : l ≡ name_of s at) where
-  pub fun_fails : {comps left : ℕ} {k : Refusal} {q : Place} (from : Place) → l ≡ Failed k q
+  pub fun_fails : {comps left : ℕ} {k : Refusal} {q : Place} (from : Place) → l ≡ failed k q
       → Reads s cap comps left at t (fun_statement_p s from at) (Refused k q t) A A
   unfolding fun_statement_p
-  fun_fails from f = refuses (failed e f)
+  fun_fails from f = refuses (by_failed e f)
 
-  module _ {h n : Place} (f : l ≡ Taken h n) where
-    name_leads : NameOn s at (Taken h n)
+  module _ {h n : Place} (f : l ≡ taken h n) where
+    name_leads : NameOn s at (taken h n)
     name_leads = subst (NameOn s at) (sym e ∙ f) (name_of_on s at g.stands)
 
     name_further : at.offset ≤ n.offset
@@ -380,7 +378,7 @@ module _ {s A : List ℕ} {cap : ℕ} {at : Place} {t : Tally} (g : Ready s A ca
 
       pub fun_stops : {k : Refusal} {p : Place} {u : Tally} → r ≡ Refused k p u → Reads s cap comps left at t (fun_statement_p s from at) r A B
       unfolding fun_statement_p
-      fun_stops x = reads_on {low = n} (taken e f) name_further (reads_stop {low = n} x named)
+      fun_stops x = reads_on {low = n} (by_taken e f) name_further (reads_stop {low = n} x named)
 
       -- the closure of it
       module _ {p : Place} {u : Tally} (x : r ≡ Read p u) {w : Row} {o : Got} {C : List ℕ} (j : w ≡ row_of kinds.Closure from u.records 0 0) (m : MakesRow cap u p w o B C) where
@@ -389,7 +387,7 @@ module _ {s A : List ℕ} {cap : ℕ} {at : Place} {t : Tally} (g : Ready s A ca
 
         pub fun_full : {k : Refusal} {q : Place} {v : Tally} → o ≡ Refused k q v → Reads s cap comps left at t (fun_statement_p s from at) o A C
         unfolding fun_statement_p
-        fun_full y = reads_on {low = n} (taken e f) name_further (reads_then x named (reads_stop {low = p} y (reads_make closed (row_as j m))))
+        fun_full y = reads_on {low = n} (by_taken e f) name_further (reads_then x named (reads_stop {low = p} y (reads_make closed (row_as j m))))
 
         -- and the `let` of that
         module _ {q : Place} {v : Tally} (y : o ≡ Read q v) where
@@ -400,7 +398,7 @@ module _ {s A : List ℕ} {cap : ℕ} {at : Place} {t : Tally} (g : Ready s A ca
               → Reads s cap comps left at t (fun_statement_p s from at) a A Z
           unfolding fun_statement_p declare_p
           fun_read k b =
-              reads_on {low = n} (taken e f) name_further
+              reads_on {low = n} (by_taken e f) name_further
               (reads_then x named
               (reads_then y (reads_make closed (row_as j m))
               (reads_valued fun_closed (let_row_lem C v.records from 0 (name_word h n) v.records (omega arith))

@@ -7,14 +7,10 @@ use Prim.Native.Nat.{ℕ, zero, suc, ◌+◌, ◌-◌, ◌≤◌, ◌<◌}
 use Rattle.characters.specs.declared.place.Place.{Place}
 use Rattle.characters.specs.declared.refusal.Refusal.{Refusal}
 use Rattle.characters.specs.declared.refusal.Refusal.TheVariants.{TooLong, BadNesting, NotUtf8, TooDeep, PoolFull, TooManyComparisons}
-use Rattle.characters.specs.declared.tokens.Look.{Look}
-use Rattle.characters.specs.declared.tokens.Look.TheVariants.{Found, Missing, Halted}
-use Rattle.characters.specs.declared.tokens.Must.{Must}
-use Rattle.characters.specs.declared.tokens.Must.TheVariants.{Taken, Failed}
+use Rattle.characters.specs.Answers.{Looked, Must, failed, found, missing, taken}
 use Rattle.reading.specs.declared.node.Node.{Node}
 use Rattle.reading.specs.declared.tally.Tally.{Tally}
-use Rattle.reading.specs.declared.answer.Out.{Out}
-use Rattle.reading.specs.declared.answer.Out.TheVariants.{Read, Refused}
+use Rattle.reading.specs.Outs.{Out, Read, Refused}
 use Rattle.reading.specs.Events.{Rec, recorded, compared, records, comparisons, End, Done, Stop, Crossed, Spent, Outcome, ended, records_of, start, with_record, with_comparison, with_id, steps}
 use Rattle.reading.specs.Limits.{limited, verdict, judged, guarded}
 use Rattle.reading.specs.Process.{Process, done, stop, make, compare, fresh, call, test, look, must, bind, Grammar, node_of, plain, under, run, outside, reading}
@@ -133,7 +129,7 @@ module _ {M N : Type 0} {w : Layout M} {G : Grammar N} {cap comps left : ℕ} wh
       → Does w G cap comps left t P r' A B
   told {t} {P} {r} {r'} {A} {B} e h = subst (λ (r : Out). Does w G cap comps left t P r A B) e h
 
-  -- the process, by what a leaf's answer was found to be: for an enum that is not `Look` or `Must`
+  -- the process, by what a leaf's answer was found to be: for an answer that is neither `Looked` nor `Must`
   pub along : {A : Type 0} (f : A → Process N) {a b : A} {t : Tally} {r : Out} {B Z : M} → a ≡ b → Does w G cap comps left t (f a) r B Z
       → Does w G cap comps left t (f b) r B Z
   along f {t = t} {r = r} {B = B} {Z = Z} e h = subst (λ (x : _). Does w G cap comps left t (f x) r B Z) e h
@@ -158,35 +154,35 @@ module _ {M N : Type 0} {w : Layout M} {G : Grammar N} {cap comps left : ℕ} wh
   no_way e h = rw e (record { says = h.says })
 
   -- what may be there: the leaf's contract gives l ≡ l', the code's match gives what l is
-  pub found : {l l' : Look} {t : Tally} {p q : Place} {f : Place → Place → Process N} {g : Place → Process N} {r : Out} {A B : M} → l ≡ l'
-      → l ≡ Found p q
+  pub by_found : {l l' : Looked} {t : Tally} {p q : Place} {f : Place → Place → Process N} {g : Place → Process N} {r : Out} {A B : M} → l ≡ l'
+      → l ≡ found p q
       → Does w G cap comps left t (f p q) r A B → Does w G cap comps left t (look l' f g) r A B
   unfolding under
-  found {t = t} {f = f} {g = g} {r = r} {A = A} {B = B} a e h = subst (λ (v : Look). Does w G cap comps left t (look v f g) r A B) (sym e ∙ a) (record { says = h.says })
+  by_found {t = t} {f = f} {g = g} {r = r} {A = A} {B = B} a e h = subst (λ (v : Looked). Does w G cap comps left t (look v f g) r A B) (sym e ∙ a) (record { says = h.says })
 
-  pub missing : {l l' : Look} {t : Tally} {p : Place} {f : Place → Place → Process N} {g : Place → Process N} {r : Out} {A B : M} → l ≡ l'
-      → l ≡ Missing p
+  pub by_missing : {l l' : Looked} {t : Tally} {p : Place} {f : Place → Place → Process N} {g : Place → Process N} {r : Out} {A B : M} → l ≡ l'
+      → l ≡ missing p
       → Does w G cap comps left t (g p) r A B → Does w G cap comps left t (look l' f g) r A B
   unfolding under
-  missing {t = t} {f = f} {g = g} {r = r} {A = A} {B = B} a e h = subst (λ (v : Look). Does w G cap comps left t (look v f g) r A B) (sym e ∙ a) (record { says = h.says })
+  by_missing {t = t} {f = f} {g = g} {r = r} {A = A} {B = B} a e h = subst (λ (v : Looked). Does w G cap comps left t (look v f g) r A B) (sym e ∙ a) (record { says = h.says })
 
-  pub halted : {l l' : Look} {t : Tally} {k : Refusal} {p : Place} {f : Place → Place → Process N} {g : Place → Process N} {A : M} → l ≡ l'
-      → l ≡ Halted k p
+  pub by_halted : {l l' : Looked} {t : Tally} {k : Refusal} {p : Place} {f : Place → Place → Process N} {g : Place → Process N} {A : M} → l ≡ l'
+      → l ≡ failed k p
       → Does w G cap comps left t (look l' f g) (Refused k p t) A A
   unfolding under
-  halted {t = t} {k = k} {p = p} {f = f} {g = g} {A = A} a e =
-      subst (λ (v : Look). Does w G cap comps left t (look v f g) (Refused k p t) A A) (sym e ∙ a) (record { says = λ nest l. says_ended w (Stop k p) t (Refused k p t) A refl })
+  by_halted {t = t} {k = k} {p = p} {f = f} {g = g} {A = A} a e =
+      subst (λ (v : Looked). Does w G cap comps left t (look v f g) (Refused k p t) A A) (sym e ∙ a) (record { says = λ nest l. says_ended w (Stop k p) t (Refused k p t) A refl })
 
   -- what has to be there
-  pub taken : {l l' : Must} {t : Tally} {p q : Place} {f : Place → Place → Process N} {r : Out} {A B : M} → l ≡ l' → l ≡ Taken p q
+  pub by_taken : {l l' : Must} {t : Tally} {p q : Place} {f : Place → Place → Process N} {r : Out} {A B : M} → l ≡ l' → l ≡ taken p q
       → Does w G cap comps left t (f p q) r A B → Does w G cap comps left t (must l' f) r A B
   unfolding under
-  taken {t = t} {f = f} {r = r} {A = A} {B = B} a e h = subst (λ (v : Must). Does w G cap comps left t (must v f) r A B) (sym e ∙ a) (record { says = h.says })
+  by_taken {t = t} {f = f} {r = r} {A = A} {B = B} a e h = subst (λ (v : Must). Does w G cap comps left t (must v f) r A B) (sym e ∙ a) (record { says = h.says })
 
-  pub failed : {l l' : Must} {t : Tally} {k : Refusal} {p : Place} {f : Place → Place → Process N} {A : M} → l ≡ l' → l ≡ Failed k p
+  pub by_failed : {l l' : Must} {t : Tally} {k : Refusal} {p : Place} {f : Place → Place → Process N} {A : M} → l ≡ l' → l ≡ failed k p
       → Does w G cap comps left t (must l' f) (Refused k p t) A A
   unfolding under
-  failed {t = t} {k = k} {p = p} {f = f} {A = A} a e =
+  by_failed {t = t} {k = k} {p = p} {f = f} {A = A} a e =
       subst (λ (v : Must). Does w G cap comps left t (must v f) (Refused k p t) A A) (sym e ∙ a) (record { says = λ nest l. says_ended w (Stop k p) t (Refused k p t) A refl })
 
   -- a level: none is left; one is taken

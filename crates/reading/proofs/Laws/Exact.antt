@@ -1,6 +1,6 @@
 -- EXACT: a reading with lower limits is the reading with higher limits, or with none, cut. By induction over the process, and over
 -- the levels left: cutting goes through each event and through one process after another. Assumes nothing.
-use Rattle.std.specs.Prelude.{◌≡◌, ◌⊎◌, Bool}
+use Rattle.std.specs.Prelude.{◌≡◌, ◌⊎◌, Bool, Err, Ok}
 use Rattle.std.proofs.Math.Path.{refl, sym, ap}
 use Rattle.std.proofs.Common.{◌∙◌, inl, inr, arith, ltb-true, lt-ltb, leb-true, le-leb}
 use mathlib.Core.List.{List, [], ◌∷◌}
@@ -8,8 +8,7 @@ use Rattle.std.proofs.Math.Bool.{true, false}
 use Prim.Native.Nat.{ℕ, zero, suc, ◌+◌, ◌≤◌, ◌<◌}
 use Rattle.std.proofs.lemmas.Bool.{lt-leb}
 use Rattle.characters.specs.declared.place.Place.{Place}
-use Rattle.characters.specs.declared.tokens.Look.TheVariants.{Found, Missing, Halted}
-use Rattle.characters.specs.declared.tokens.Must.TheVariants.{Taken, Failed}
+use Rattle.characters.specs.Answers.{found, missing}
 use Rattle.reading.specs.declared.node.Node.{Node}
 use Rattle.reading.specs.declared.tally.Tally.{Tally}
 use Rattle.reading.specs.Events.{Event, entered, recorded, compared, numbered, Which, levels, records, comparisons, End, Done, Stop, Crossed, Spent, Outcome, ended, cons, start, step, steps}
@@ -120,11 +119,11 @@ module _ {N : Type 0} (L L' : Limits) (b : Below L L') where
     under_cut (call nt p) t = h nt p t
     under_cut (test true x y) t = under_cut x t
     under_cut (test false x y) t = under_cut y t
-    under_cut (look (Found q n) f g) t = under_cut (f q n) t
-    under_cut (look (Missing q) f g) t = under_cut (g q) t
-    under_cut (look (Halted k q) f g) t = refl
-    under_cut (must (Taken q n) f) t = under_cut (f q n) t
-    under_cut (must (Failed k q) f) t = refl
+    under_cut (look (found q n) f g) t = under_cut (f q n) t
+    under_cut (look (missing q) f g) t = under_cut (g q) t
+    under_cut (look (Err e) f g) t = refl
+    under_cut (must (Ok x) f) t = under_cut (f x.here x.next) t
+    under_cut (must (Err e) f) t = refl
     under_cut (bind x k) t =
         ap (λ (o : Outcome). after t o (λ p n u. under sub L u (k p n))) (under_cut x t)
         ∙ after_same t (cut L t (under sub' L' t x)) (λ p n u. under sub L u (k p n)) (λ p n u. cut L u (under sub' L' u (k p n))) (λ p n u. under_cut (k p n) u)

@@ -1,11 +1,8 @@
 -- The laws by which a grammar shows that it suits: one for each step of a process. Assumes nothing.
-use Rattle.std.specs.Prelude.{◌≡◌, refl, List, Bool, true, false, ℕ, ◌+◌, ◌<◌, T, length}
+use Rattle.std.specs.Prelude.{◌≡◌, refl, List, Bool, true, false, ℕ, ◌+◌, ◌<◌, T, length, Err, Ok}
 use Rattle.characters.specs.declared.place.Place.{Place}
 use Rattle.characters.specs.declared.refusal.Refusal.{Refusal}
-use Rattle.characters.specs.declared.tokens.Look.{Look}
-use Rattle.characters.specs.declared.tokens.Look.TheVariants.{Found, Missing, Halted}
-use Rattle.characters.specs.declared.tokens.Must.{Must}
-use Rattle.characters.specs.declared.tokens.Must.TheVariants.{Taken, Failed}
+use Rattle.characters.specs.Answers.{Looked, Must, failed, found, missing, taken}
 use Rattle.reading.specs.declared.node.Node.{Node}
 use Rattle.reading.specs.Events.{Rec}
 use Rattle.reading.specs.Process.{Process, done, stop, spent, make, compare, fresh, call, test, look, must, bind, node_as, plain}
@@ -24,11 +21,11 @@ meets_weaken C m before Q R (fresh p) f h = λ k. f before p _ (since_same befor
 meets_weaken C m before Q R (call nt p) f h = (h.0, h.1, λ now q n a b. f now q n a (h.2 now q n a b))
 meets_weaken C m before Q R (test true x y) f h = meets_weaken C m before Q R x f h
 meets_weaken C m before Q R (test false x y) f h = meets_weaken C m before Q R y f h
-meets_weaken C m before Q R (look (Found a b) x y) f h = meets_weaken C m before Q R (x a b) f h
-meets_weaken C m before Q R (look (Missing a) x y) f h = meets_weaken C m before Q R (y a) f h
-meets_weaken C m before Q R (look (Halted k a) x y) f h = h
-meets_weaken C m before Q R (must (Taken a b) x) f h = meets_weaken C m before Q R (x a b) f h
-meets_weaken C m before Q R (must (Failed k a) x) f h = h
+meets_weaken C m before Q R (look (found a b) x y) f h = meets_weaken C m before Q R (x a b) f h
+meets_weaken C m before Q R (look (missing a) x y) f h = meets_weaken C m before Q R (y a) f h
+meets_weaken C m before Q R (look (Err e) x y) f h = h
+meets_weaken C m before Q R (must (Ok t) x) f h = meets_weaken C m before Q R (x t.here t.next) f h
+meets_weaken C m before Q R (must (Err e) x) f h = h
 meets_weaken C m before Q R (bind x k) f h =
     meets_weaken C m before (λ now q n. Meets C m now Q (k q n)) (λ now q n. Meets C m now R (k q n)) x
     (λ now q n a b. meets_weaken C m now Q R (k q n) (λ now' q' n' a' b'. f now' q' n' (since_trans a a') b') b)
@@ -65,17 +62,17 @@ module _ {N : Type 0} {C : Choice N} {m : ℕ} {before : List Rec} {Q : Claim} w
   fits_test {b = true} h k = record { meets = (h refl).meets }
   fits_test {b = false} h k = record { meets = (k refl).meets }
 
-  pub fits_look : {l : Look} {f : Place → Place → Process N} {g : Place → Process N}
-      → ((a b : Place) → l ≡ Found a b → Fits C m before Q (f a b))
-      → ((a : Place) → l ≡ Missing a → Fits C m before Q (g a)) → ((k : Refusal) (a : Place) → l ≡ Halted k a → T (proper k)) → Fits C m before Q (look l f g)
-  fits_look {l = Found a b} x y z = record { meets = (x a b refl).meets }
-  fits_look {l = Missing a} x y z = record { meets = (y a refl).meets }
-  fits_look {l = Halted k a} x y z = record { meets = z k a refl }
+  pub fits_look : {l : Looked} {f : Place → Place → Process N} {g : Place → Process N}
+      → ((a b : Place) → l ≡ found a b → Fits C m before Q (f a b))
+      → ((a : Place) → l ≡ missing a → Fits C m before Q (g a)) → ((k : Refusal) (a : Place) → l ≡ failed k a → T (proper k)) → Fits C m before Q (look l f g)
+  fits_look {l = found a b} x y z = record { meets = (x a b refl).meets }
+  fits_look {l = missing a} x y z = record { meets = (y a refl).meets }
+  fits_look {l = Err e} x y z = record { meets = z e.refusal e.at refl }
 
-  pub fits_must : {l : Must} {f : Place → Place → Process N} → ((a b : Place) → l ≡ Taken a b → Fits C m before Q (f a b))
-      → ((k : Refusal) (a : Place) → l ≡ Failed k a → T (proper k)) → Fits C m before Q (must l f)
-  fits_must {l = Taken a b} x z = record { meets = (x a b refl).meets }
-  fits_must {l = Failed k a} x z = record { meets = z k a refl }
+  pub fits_must : {l : Must} {f : Place → Place → Process N} → ((a b : Place) → l ≡ taken a b → Fits C m before Q (f a b))
+      → ((k : Refusal) (a : Place) → l ≡ failed k a → T (proper k)) → Fits C m before Q (must l f)
+  fits_must {l = Ok t} x z = record { meets = (x t.here t.next refl).meets }
+  fits_must {l = Err e} x z = record { meets = z e.refusal e.at refl }
 
   pub fits_bind : {x : Process N} {k : Place → Node → Process N} → Fits C m before (λ now q n. Fits C m now Q (k q n)) x
       → Fits C m before Q (bind x k)

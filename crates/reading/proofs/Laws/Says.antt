@@ -9,8 +9,7 @@ use Rattle.characters.specs.declared.refusal.Refusal.{Refusal}
 use Rattle.characters.specs.declared.refusal.Refusal.TheVariants.{TooDeep}
 use Rattle.reading.specs.declared.node.Node.{Node}
 use Rattle.reading.specs.declared.tally.Tally.{Tally}
-use Rattle.reading.specs.declared.answer.Out.{Out}
-use Rattle.reading.specs.declared.answer.Out.TheVariants.{Read, Refused}
+use Rattle.reading.specs.Outs.{Out, Read, Refused}
 use Rattle.reading.specs.Events.{Rec, Event, compared, End, Done, Stop, Crossed, Spent, Outcome, ended, records_of, comparisons_of, start, steps}
 use Rattle.reading.specs.Limits.{Limits, limited, Verdict, goes, over, judge, judged, guarded}
 use Rattle.reading.specs.Process.{Process, bind, Grammar, plain, joined, making, comparing, under, run}

@@ -1,15 +1,14 @@
 -- What follows for the unlimited reading of a grammar that suits: it ends by no limit and by no loop that ran out, with a proper
 -- refusal or none, and each of its records is fine after those before it. By induction over the process, and over the levels left,
 -- which the measure stays below. Assumes nothing.
-use Rattle.std.specs.Prelude.{◌≡◌, refl, T, length}
+use Rattle.std.specs.Prelude.{◌≡◌, refl, T, length, Err, Ok}
 use Rattle.std.proofs.Common.{sym, ◌∙◌, arith, length-append}
 use Rattle.std.proofs.Math.Path.{ap, subst}
 use mathlib.Core.List.{List, [], ◌∷◌, ◌++◌, append-nil, append_assoc}
 use Rattle.std.proofs.Math.Bool.{true, false}
 use Prim.Native.Nat.{ℕ, zero, suc, ◌+◌, ◌≤◌, ◌<◌}
 use Rattle.characters.specs.declared.place.Place.{Place}
-use Rattle.characters.specs.declared.tokens.Look.TheVariants.{Found, Missing, Halted}
-use Rattle.characters.specs.declared.tokens.Must.TheVariants.{Taken, Failed}
+use Rattle.characters.specs.Answers.{found, missing}
 use Rattle.reading.specs.declared.node.Node.{Node}
 use Rattle.reading.specs.declared.tally.Tally.{Tally}
 use Rattle.reading.specs.Events.{Rec, Event, End, Done, Stop, Crossed, Spent, Outcome, records_of, steps}
@@ -125,11 +124,11 @@ module _ {N : Type 0} (C : Choice N) where
     under_meets (call nt p) before t Q e k = weaken before (C.claim nt p before) Q (sub nt p t).end (sub nt p t).events k.2 (h nt p before t e k.0 k.1)
     under_meets (test true x y) before t Q e k = under_meets x before t Q e k
     under_meets (test false x y) before t Q e k = under_meets y before t Q e k
-    under_meets (look (Found q n) f g) before t Q e k = under_meets (f q n) before t Q e k
-    under_meets (look (Missing q) f g) before t Q e k = under_meets (g q) before t Q e k
-    under_meets (look (Halted j q) f g) before t Q e k = nothing before Q (Stop j q) k
-    under_meets (must (Taken q n) f) before t Q e k = under_meets (f q n) before t Q e k
-    under_meets (must (Failed j q) f) before t Q e k = nothing before Q (Stop j q) k
+    under_meets (look (found q n) f g) before t Q e k = under_meets (f q n) before t Q e k
+    under_meets (look (missing q) f g) before t Q e k = under_meets (g q) before t Q e k
+    under_meets (look (Err x) f g) before t Q e k = nothing before Q (Stop x.refusal x.at) k
+    under_meets (must (Ok x) f) before t Q e k = under_meets (f x.here x.next) before t Q e k
+    under_meets (must (Err x) f) before t Q e k = nothing before Q (Stop x.refusal x.at) k
     under_meets (bind x f) before t Q e k =
         holds_joined before t Q (λ now q n. Meets C m now Q (f q n)) (under sub (free lv) t x).end (under sub (free lv) t x).events (λ p n u. under sub (free lv) u (f p n)) e
         (under_meets x before t (λ now q n. Meets C m now Q (f q n)) e k)

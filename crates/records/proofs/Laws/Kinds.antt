@@ -1,14 +1,13 @@
 -- The table of kinds: its numbers are the kinds' places in the list, so a number stands for one kind at most. Assumes nothing.
-use Rattle.std.specs.Prelude.{◌≡◌, refl, ℕ, zero, suc, ◌≤◌, ◌<◌, length}
+use Rattle.std.specs.Prelude.{◌≡◌, refl, ℕ, zero, suc, ◌≤◌, ◌<◌, length, None, Some}
 use Rattle.std.proofs.Common.{sym, ap, ◌∙◌, arith}
 use Rattle.std.proofs.Math.ListN.{get_or-eq_default}
 use Rattle.records.specs.declared.kind.Kind.{Kind}
 use Rattle.records.specs.declared.kind.Kind.TheVariants.{True, False, Nil, Int, Float, String, Bytes, Array, Dict, Name, Host, Closure, Index, Member, InstanceOf, Unary, Binary, Choice, Call, Do, Assign, Return, Assert, Break, Continue, Block, If, For, Let, ClassDecl, Fun, Class, Item, Param, Pair, Global, Stated, Method}
-use Rattle.records.specs.declared.kind.KindAt.TheVariants.{Known, Unknown}
 use Rattle.records.specs.Kinds.{number_of, kinds, kind_of}
 
 -- A kind's number stands for it.
-pub kind_number : (k : Kind) → kind_of (number_of k) ≡ Known k
+pub kind_number : (k : Kind) → kind_of (number_of k) ≡ Some k
 kind_number True = refl
 kind_number False = refl
 kind_number Nil = refl
@@ -50,18 +49,12 @@ kind_number Method = refl
 
 -- Two kinds have two numbers.
 pub number_one : (j k : Kind) → number_of j ≡ number_of k → j ≡ k
-number_one j k e = let z : Known j ≡ Known k = sym (kind_number j) ∙ ap kind_of e ∙ kind_number k in cc
-
--- None of the numbers from 1 to n, as the last arm of a match over them knows it.
-abbrev pub NoneTo : ℕ → ℕ → Type 0
-NoneTo zero x = Unit
-NoneTo (suc n) x = NoneTo n x × (x ≡ suc n → ⊥)
-
-above : (n x : ℕ) → 0 < x → NoneTo n x → n < x
-above zero x l h = l
-above (suc n) x l h = let a = above n x l h.0 in let b = h.1 in omega (arith, b)
+number_one j k e = let z : Some j ≡ Some k = sym (kind_number j) ∙ ap kind_of e ∙ kind_number k in cc
 
 -- A number of no kind.
-pub kind_none : (x : ℕ) → NoneTo 38 x → kind_of x ≡ Unknown
+pub kind_none : (x : ℕ) → (0 < x → 38 < x) → kind_of x ≡ None
 kind_none zero h = refl
-kind_none (suc x) h = let l : length kinds ≤ suc x = above 38 (suc x) (omega arith) h in get_or-eq_default kinds Unknown l
+kind_none (suc x) h =
+    let l : 38 < suc x = h (omega arith) in
+    let m : length kinds ≤ suc x = omega arith in
+    get_or-eq_default kinds None m

@@ -1,11 +1,10 @@
 -- The laws of meanings: records made later keep them, a record just made has its kind, and what is meant refers to earlier records.
 -- Assumes nothing.
-use Rattle.std.specs.Prelude.{◌≡◌, refl, List, [], ◌∷◌, ◌++◌, Bool, true, false, ℕ, zero, suc, ◌+◌, ◌≤◌, T, length}
+use Rattle.std.specs.Prelude.{◌≡◌, refl, List, [], ◌∷◌, ◌++◌, Bool, true, false, ℕ, zero, suc, ◌+◌, ◌≤◌, T, length, None, Option, Some}
 use Rattle.std.proofs.Common.{sym, subst, ap, ◌∙◌, add-one, arith}
 use Rattle.reading.specs.Events.{Field, word, ref, Rec, Earlier}
 use Rattle.reading.specs.Suits.{Since, With}
-use Rattle.records.specs.declared.kind.KindAt.{KindAt}
-use Rattle.records.specs.declared.kind.KindAt.TheVariants.{Known, Unknown}
+use Rattle.records.specs.declared.kind.Kind.{Kind}
 use Rattle.records.specs.Kinds.{Meaning, expression, statement, function, class, items, span, low, high, mark, operator, id, number, unused, is_reference, shape, kind_of}
 use Rattle.records.specs.Meanings.{kind_in, is_a, Is, MayBe, none, some, Refers, Word, Each, MeantBy, Meant}
 
@@ -86,6 +85,6 @@ each_earlier made (m ∷ ms) (ref k ∷ fs) h = (refers_earlier made m k h.0, ea
 pub meant_earlier : (made : List Rec) (r : Rec) → Meant made r → Earlier (length made) r.fields
 meant_earlier made r h = go (kind_of r.kind) h
   where
-    go : (k : KindAt) → MeantBy k made r.fields → Earlier (length made) r.fields
-    go (Known k) x = each_earlier made (shape k).fields r.fields x
-    go Unknown x = absurd x
+    go : (k : Option Kind) → MeantBy k made r.fields → Earlier (length made) r.fields
+    go (Some k) x = each_earlier made (shape k).fields r.fields x
+    go None x = absurd x

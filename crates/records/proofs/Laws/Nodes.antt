@@ -12,10 +12,9 @@ use Rattle.characters.specs.declared.refusal.Refusal.{Refusal}
 use Rattle.characters.specs.declared.refusal.Refusal.TheVariants.{PoolFull}
 use Rattle.reading.specs.declared.node.Node.{Node}
 use Rattle.reading.specs.declared.tally.Tally.{Tally}
-use Rattle.reading.specs.declared.answer.Got.{Got}
-use Rattle.reading.specs.declared.answer.Got.TheVariants.{Read, Refused}
-use Rattle.reading.specs.declared.answer.Out.{Out}
-use Rattle.reading.specs.declared.answer.Out.TheVariants as out
+use Rattle.reading.specs.Gots.{Got, Read, Refused}
+use Rattle.reading.specs.Outs.{Out}
+use Rattle.reading.specs.Outs as out
 use Rattle.reading.specs.Events.{Rec, with_record}
 use Rattle.reading.specs.Process.{Process, Grammar, node_as, node_of}
 use Rattle.reading.specs.Says.{laid, Does, Makes}

@@ -1,6 +1,6 @@
 -- The laws of rows: what is laid is eight stores and no more; the length, the rows before and the words past it stay; and reading back
 -- gives the row. So rows and records determine each other. Assumes nothing.
-use Rattle.std.specs.Prelude.{◌≡◌, refl, List, [], ◌∷◌, map, Bool, true, false, ◌&&◌, ℕ, zero, suc, ◌+◌, ◌-◌, ◌*◌, ◌≤◌, ◌<◌, leb, length, get_or, set}
+use Rattle.std.specs.Prelude.{◌≡◌, refl, List, [], ◌∷◌, map, Bool, true, false, ◌&&◌, ℕ, zero, suc, ◌+◌, ◌-◌, ◌*◌, ◌≤◌, ◌<◌, leb, length, get_or, set, None, Option, Some}
 use Rattle.std.proofs.Common.{sym, ap, subst, ◌∙◌, pos_of_ne-zero, add-one, arith, length-set, get_or-set_same, get_or-set_other, leb-true, leb-false, le-leb}
 use Rattle.std.proofs.Math.Numerals.{add-two, add-three, add-four, add_five, add_six, add_seven}
 use Rattle.std.proofs.lemmas.List.Edits.{sets}
@@ -8,14 +8,12 @@ use Rattle.std.proofs.Math.Seq.{length-sets}
 use Rattle.std.proofs.lemmas.Bool.{lt-leb}
 use Rattle.characters.specs.declared.place.Place.{Place}
 use Rattle.reading.specs.declared.tally.Tally.{Tally}
-use Rattle.reading.specs.declared.answer.Out.TheVariants.{Read}
+use Rattle.reading.specs.Outs.{Read}
 use Rattle.reading.specs.Events.{Rec, with_record}
 use Rattle.reading.specs.Says.{laid, Makes}
 use Rattle.reading.proofs.Laws.Does.{makes_one}
-use Rattle.records.specs.declared.kind.KindAt.{KindAt}
-use Rattle.records.specs.declared.kind.KindAt.TheVariants.{Known}
+use Rattle.records.specs.declared.kind.Kind.{Kind}
 use Rattle.records.specs.declared.row.Row.{Row}
-use Rattle.records.specs.declared.row.RowAt.TheVariants.{Here, Nothing}
 use Rattle.records.specs.Kinds.{is_reference, number_of, meaning_at, kind_of}
 use Rattle.records.specs.Rows.{as_field, record_of, width, field_word, words, layout, cap_of, Lent, Lays, row_by, row_from, row_if, row_at, rows_at}
 use Rattle.records.proofs.Laws.Kinds.{kind_number}
@@ -133,15 +131,15 @@ laid_past (r ∷ rs) pool made i h = laid_past rs (layout pool made r) (made + 1
 
 -- ---- reading back
 
-pub row_zero : (pool : List ℕ) (n : ℕ) → n ≡ 0 → row_at pool n ≡ Nothing
+pub row_zero : (pool : List ℕ) (n : ℕ) → n ≡ 0 → row_at pool n ≡ None
 unfolding row_at
 row_zero pool n e = rw e
 
-pub row_short : (pool : List ℕ) (n : ℕ) → length pool < n * 8 → row_at pool n ≡ Nothing
+pub row_short : (pool : List ℕ) (n : ℕ) → length pool < n * 8 → row_at pool n ≡ None
 unfolding row_at
 row_short pool n h = go (leb 1 n) (lt-leb (n * 8) (length pool) h)
   where
-    go : (b : Bool) → leb (n * 8) (length pool) ≡ false → row_if (b && leb (n * 8) (length pool)) (row_from pool (n * 8 - 8)) ≡ Nothing
+    go : (b : Bool) → leb (n * 8) (length pool) ≡ false → row_if (b && leb (n * 8) (length pool)) (row_from pool (n * 8 - 8)) ≡ None
     go true e = rw e
     go false e = refl
 
@@ -150,7 +148,7 @@ unfolding row_at
 row_in pool n z h = rw (le-leb 1 n (pos_of_ne-zero z), le-leb (n * 8) (length pool) h)
 
 -- A row by the kind found.
-pub row_kind : (pool : List ℕ) (n : ℕ) (k : KindAt) → (n ≡ 0 → ⊥) → n * 8 ≤ length pool → k ≡ kind_of (get_or pool (n * 8 - 8) 0)
+pub row_kind : (pool : List ℕ) (n : ℕ) (k : Option Kind) → (n ≡ 0 → ⊥) → n * 8 ≤ length pool → k ≡ kind_of (get_or pool (n * 8 - 8) 0)
     → row_at pool n
     ≡ row_by
     k
@@ -175,12 +173,12 @@ row_same x y b h =
     (h 7 (omega arith) i)
 
 -- A row's words give the row.
-row_of_lem : (x : List ℕ) (b : ℕ) (w : Row) → ((j : ℕ) → j < 8 → get_or x (b + j) 0 ≡ get_or (row_words w) j 0) → row_from x b ≡ Here w
+row_of_lem : (x : List ℕ) (b : ℕ) (w : Row) → ((j : ℕ) → j < 8 → get_or x (b + j) 0 ≡ get_or (row_words w) j 0) → row_from x b ≡ Some w
 unfolding row_words
 row_of_lem x b w h =
     let e : b + 0 ≡ b = omega arith in
     let z : get_or x b 0 ≡ number_of w.kind = subst (λ (k : ℕ). get_or x k 0 ≡ number_of w.kind) e (h 0 (omega arith)) in
-    let k : kind_of (get_or x b 0) ≡ Known w.kind = ap kind_of z ∙ kind_number w.kind in
+    let k : kind_of (get_or x b 0) ≡ Some w.kind = ap kind_of z ∙ kind_number w.kind in
     λ i.
     row_by (k i)
     (record { offset = h 1 (omega arith) i; line = h 2 (omega arith) i; column = h 3 (omega arith) i })
@@ -207,7 +205,7 @@ laid_row rs pool made (suc n) h = go (leb (suc n * 8) (length pool)) refl
         row_short (laid layout pool made rs) (suc n) (omega arith) ∙ sym (row_short pool (suc n) f)
 
 -- What was laid is read back.
-layout_row : (pool : List ℕ) (made : ℕ) (w : Row) → (made + 1) * 8 ≤ length pool → row_at (layout pool made (record_of w)) (made + 1) ≡ Here w
+layout_row : (pool : List ℕ) (made : ℕ) (w : Row) → (made + 1) * 8 ≤ length pool → row_at (layout pool made (record_of w)) (made + 1) ≡ Some w
 layout_row pool made w h =
     let p : List ℕ = layout pool made (record_of w) in
     let l : length p ≡ length pool = layout_length pool made (record_of w) in
@@ -218,25 +216,25 @@ layout_row pool made w h =
 
 -- Reading back the records laid gives the rows that they are, in their order.
 pub rows_back : (ws : List Row) (pool : List ℕ) (made : ℕ) → (made + length ws) * 8 ≤ length pool
-    → rows_at (laid layout pool made (map record_of ws)) made (length ws) ≡ map Here ws
+    → rows_at (laid layout pool made (map record_of ws)) made (length ws) ≡ map Some ws
 unfolding laid
 rows_back [] pool made h = refl
 rows_back (w ∷ ws) pool made h =
     let p : List ℕ = layout pool made (record_of w) in
     let l : length p ≡ length pool = layout_length pool made (record_of w) in
-    let first : row_at (laid layout p (made + 1) (map record_of ws)) (made + 1) ≡ Here w =
+    let first : row_at (laid layout p (made + 1) (map record_of ws)) (made + 1) ≡ Some w =
     laid_row (map record_of ws) p (made + 1) (made + 1) (omega arith) ∙ layout_row pool made w (omega arith)
     in
     let others = rows_back ws p (made + 1) (omega arith) in
     λ i. first i ∷ others i
 
-here_one : (v w : List Row) → map Here v ≡ map Here w → v ≡ w
+here_one : (v w : List Row) → map Some v ≡ map Some w → v ≡ w
 here_one [] [] e = refl
 here_one [] (w ∷ ws) e = cc
 here_one (v ∷ vs) [] e = cc
 here_one (v ∷ vs) (w ∷ ws) e =
-    let h : Here v ≡ Here w = cc in
-    let t : map Here vs ≡ map Here ws = cc in
+    let h : Some v ≡ Some w = cc in
+    let t : map Some vs ≡ map Some ws = cc in
     let f : v ≡ w = cc in
     let g : vs ≡ ws = here_one vs ws t in
     λ i. f i ∷ g i

@@ -1,8 +1,8 @@
 -- THE ENTRIES: each return of the full one. Assumes nothing.
-use Rattle.std.specs.Prelude.{◌≡◌, refl, Bool, true, false, not, List, [], ℕ, ◌≤◌, ◌<◌, length}
-use Rattle.std.proofs.Common.{sym, ap, subst, ◌∙◌, arith, le-leb}
+use Rattle.std.specs.Prelude.{◌≡◌, ◌⊎◌, refl, Bool, true, false, List, [], ℕ, ◌≤◌, ◌<◌, length}
+use Rattle.std.proofs.Common.{inl, inr, sym, ap, subst, ◌∙◌, arith, le-leb}
 use Rattle.std.proofs.Math.Path.{subst⁻¹}
-use Rattle.std.proofs.lemmas.Bool.{not-true, not-false, lt-leb}
+use Rattle.std.proofs.lemmas.Bool.{lt-leb}
 use Rattle.characters.specs.declared.place.Place.{Place}
 use Rattle.characters.specs.declared.refusal.Refusal.{Refusal}
 use Rattle.characters.specs.declared.refusal.Refusal.TheVariants.{TooLong, BadNesting, NotUtf8}
@@ -12,9 +12,8 @@ use Rattle.characters.specs.Blanks.{file_start}
 use Rattle.characters.specs.Utf8.{well_formed, prefix_place}
 use Rattle.reading.specs.declared.tally.Tally.{Tally}
 use Rattle.reading.specs.declared.answer.Answer.{Answer}
-use Rattle.reading.specs.declared.answer.Got.{Got}
-use Rattle.reading.specs.declared.answer.Got.TheVariants.{Read, Refused}
-use Rattle.reading.specs.declared.answer.Out.{Out}
+use Rattle.reading.specs.Gots.{Got, Read, Refused}
+use Rattle.reading.specs.Outs.{Out}
 use Rattle.reading.specs.Events.{start}
 use Rattle.reading.specs.Answers.{answer_from}
 use Rattle.reading.specs.Entry.{nowhere}
@@ -72,27 +71,34 @@ module _ (s A : List ℕ) (nest comps : ℕ) (file : Bool) where
     pub enters_over : {a : Answer} → 256 < nest → a ≡ answer_from (out_of [] (Refused BadNesting nowhere start)) → Enters s nest comps file a A A
     enters_over n e = enters e (call_over (le-leb (length s) 65535 l) n)
 
+    pub enters_nest : {a : Answer} → (nest < 1) ⊎ ((1 ≤ nest) × (256 < nest)) → a ≡ answer_from (out_of [] (Refused BadNesting nowhere start))
+        → Enters s nest comps file a A A
+    enters_nest (inl n) e = enters_zero n e
+    enters_nest (inr n) e = enters_over n.1 e
+
     module _ (low : 1 ≤ nest) (high : nest ≤ 256) {b : Bool} (u : b ≡ well_formed s) where
-      pub enters_unsound : {a : Answer} {p : Place} → not b ≡ true → p ≡ prefix_place s → a ≡ answer_from (out_of [] (Refused NotUtf8 p start))
+      pub enters_unsound : {a : Answer} {p : Place} → b ≡ false → p ≡ prefix_place s → a ≡ answer_from (out_of [] (Refused NotUtf8 p start))
           → Enters s nest comps file a A A
       enters_unsound n f e =
           enters (e ∙ ap (λ (p : Place). answer_from (out_of [] (Refused NotUtf8 p start))) f)
-          (call_unsound (le-leb (length s) 65535 l) low high (sym u ∙ not-true b n))
+          (call_unsound (le-leb (length s) 65535 l) low high (sym u ∙ n))
 
-      -- the reading
-      pub enters_read : {cap : ℕ} {at : Place} {t : Tally} {r : Got} {a : Answer} {B : List ℕ} → not b ≡ false → cap ≡ cap_of (length A) → at ≡ start_of file s
+      -- the reading; the book's pool is the caller's
+      pub enters_read : {cap : ℕ} {at : Place} {t : Tally} {r : Got} {a : Answer} {B later : List ℕ} → b ≡ true → cap ≡ cap_of (length A)
+          → at ≡ start_of file s
           → t ≡ start
           → Reads s cap comps nest at t (unit_p s at) r A B → a ≡ answer_from (out_of [] r)
-          → Enters s nest comps file a A B
-      enters_read {cap} {at} {t} {r} {a} {B} n c f i d e =
+          → later ≡ B
+          → Enters s nest comps file a A later
+      enters_read {cap} {at} {t} {r} {a} {B} n c f i d e z =
           let d' : Reads s cap comps nest (start_of file s) t (unit_p s (start_of file s)) r A B =
           subst (λ (p : Place). Reads s cap comps nest p t (unit_p s p) r A B) f d
           in
           let d'' : Reads s cap comps nest (start_of file s) start (unit_p s (start_of file s)) r A B =
           subst (λ (u : Tally). Reads s cap comps nest (start_of file s) u (unit_p s (start_of file s)) r A B) i d'
           in
-          enters (e ∙ told_alike [] B r)
-          (call_read c (le-leb (length s) 65535 l) low high (sym u ∙ not-false b n) d''.does)
+          subst⁻¹ (λ (C : List ℕ). Enters s nest comps file a A C) z
+          (enters (e ∙ told_alike [] B r) (call_read c (le-leb (length s) 65535 l) low high (sym u ∙ n) d''.does))
 
 -- what the unit is read with
 pub enters_ready : {s A : List ℕ} {cap : ℕ} {at : Place} {t : Tally} (file : Bool) → length s ≤ 65535 → cap ≡ cap_of (length A) → at ≡ start_of file s

@@ -1,5 +1,5 @@
 -- THE UNIT: each return of the readers of its items, of the loop over them and of what ends it. Assumes nothing.
-use Rattle.std.specs.Prelude.{◌≡◌, Bool, ◌&&◌, List, [], ◌∷◌, ℕ, suc, ◌+◌, ◌≤◌, ◌<◌, eqb, length}
+use Rattle.std.specs.Prelude.{◌≡◌, Bool, ◌&&◌, List, [], ◌∷◌, ℕ, suc, ◌+◌, ◌≤◌, ◌<◌, eqb, Ok, Result}
 use Rattle.std.proofs.Math.Path.{refl, ap, subst, subst⁻¹}
 use Rattle.std.proofs.Common.{sym, ◌∙◌, arith, eq-eqb, ne_eqb}
 use Rattle.std.proofs.Math.Bool.{true, false}
@@ -7,21 +7,20 @@ use Rattle.characters.specs.declared.place.Place.{Place}
 use Rattle.characters.specs.declared.place.Span.{Span}
 use Rattle.characters.specs.declared.refusal.Refusal.{Refusal}
 use Rattle.characters.specs.declared.refusal.Refusal.TheVariants.{LeadingFrom}
-use Rattle.characters.specs.declared.tokens.Look.{Look}
-use Rattle.characters.specs.declared.tokens.Look.TheVariants.{Found, Missing, Halted}
+use Rattle.characters.specs.declared.refusal.Refused as struct
+use Rattle.characters.specs.Answers.{Looked, failed, found, missing}
 use Rattle.characters.specs.Text.{Text, ascii, on_by}
 use Rattle.characters.specs.Tokens.{keyword}
 use Rattle.characters.specs.TokenLaws.{TokenOn, keyword_on}
 use Rattle.characters.specs.PlaceLaws.{Reached, Advanced}
 use Rattle.reading.specs.declared.node.Node.{Node}
 use Rattle.reading.specs.declared.tally.Tally.{Tally}
-use Rattle.reading.specs.declared.answer.Got.{Got}
-use Rattle.reading.specs.declared.answer.Got.TheVariants.{Read, Refused}
-use Rattle.reading.specs.declared.answer.Out.{Out}
+use Rattle.reading.specs.Gots.{Got, Read, Refused}
+use Rattle.reading.specs.Outs.{Out}
 use Rattle.reading.specs.Entry.{nowhere}
 use Rattle.reading.specs.Process.{make, call, plain, under}
 use Rattle.reading.specs.Says.{Does}
-use Rattle.reading.proofs.Laws.Does.{by_make, by_stop, then, stops, along, yes_way, no_way, found, missing, halted, does_more}
+use Rattle.reading.proofs.Laws.Does.{by_make, by_stop, then, stops, along, yes_way, no_way, by_found, by_missing, by_halted, does_more}
 use Rattle.records.specs.declared.kind.Kind.TheVariants as kinds
 use Rattle.records.specs.declared.row.Row.{Row}
 use Rattle.records.specs.Kinds.{number_of}
@@ -32,7 +31,7 @@ use Rattle.records.proofs.Laws.Words.{low_back, high_back}
 use Rattle.records.proofs.Laws.Rows.{lent_kept}
 use Rattle.records.proofs.Laws.Nodes.{row_as, row_read, does_length, read_of, refused_of}
 use Rattle.grammar.specs.declared.heads.ItemHead.{ItemHead}
-use Rattle.grammar.specs.declared.heads.ItemHead.TheVariants.{End, Class, Statement, Wrong}
+use Rattle.grammar.specs.declared.heads.ItemHead.TheVariants.{End, Class, Statement}
 use Rattle.grammar.specs.Leaves.{row_of}
 use Rattle.grammar.specs.Heads.{item_of}
 use Rattle.grammar.specs.HeadLaws.{ItemOn, item_on}
@@ -229,35 +228,40 @@ module _ {s A : List ℕ} {cap comps last : ℕ} {at : Place} {t : Tally} (globa
         (λ left. reads_on {low = at} (λ o. no_way x.0 (no_way x.1 o)) (omega arith) (reads_make g.ready m))
 
     -- a function
-    module _ {n : Span} (f : k ≡ Function n) {from : Place} (i : from ≡ place_at A t.records) {o : Got} (c : Unique Functions s comps t at from n (names_of Functions A last) o) where
+    module _ {n : Span} (f : k ≡ Function n) {from : Place} (i : from ≡ place_at A t.records) {o : Got} (c : Unique Functions s comps t at from n (names_of Functions A last) o) {kept : List ℕ} (a : kept ≡ A) where
       new_function : Unique Functions s comps t at (place_at A t.records) (declared_name (last_of A t)) (names_of Functions A last) o
       new_function =
           subst (λ (y : Span). Unique Functions s comps t at (place_at A t.records) y (names_of Functions A last) o) (is_function_lem (last_of A t) e f).1
           (subst (λ (p : Place). Unique Functions s comps t at p n (names_of Functions A last) o) i c)
 
-      pub end_clashes : {j : Refusal} {p : Place} {u : Tally} → o ≡ Refused j p u → ItemMade s cap comps last globals at t o globals A A
+      pub end_clashes : {j : Refusal} {p : Place} {u : Tally} → o ≡ Refused j p u → ItemMade s cap comps last globals at t o globals A kept
       unfolding unit_item_p
       end_clashes x =
-          record {
+          subst⁻¹ (λ (B : List ℕ). ItemMade s cap comps last globals at t o globals A B) a
+          (record {
             reads = λ left. reads_refused x (yes_way (is_function_lem (last_of A t) e f).0 (name_stops Functions refl _ new_function x));
             declared = λ y. absurd (read_or_refused x y);
             well = λ y. absurd (read_or_refused x y);
             few = λ y. absurd (read_or_refused x y);
-          }
+          })
 
       module _ {p : Place} {u : Tally} (x : o ≡ Read p u) where
-        pub function_ready : Ready s A cap at u
-        function_ready = ready_kept g.ready (c.kept x) g.ready.stands
+        function_new : Ready s A cap at u
+        function_new = ready_kept g.ready (c.kept x) g.ready.stands
 
-        pub end_function : {r : Got} {B : List ℕ} → Acts cap at u (make at (record_of (stated_row (last_of A u) last)) 0) r A B
+        pub function_ready : Ready s kept cap at u
+        function_ready = subst⁻¹ (λ (B : List ℕ). Ready s B cap at u) a function_new
+
+        pub end_function : {r : Got} {B : List ℕ} → Acts cap at u (make at (record_of (stated_row (last_of kept u) last)) 0) r kept B
             → ItemMade s cap comps last globals at t r globals A B
         unfolding unit_item_p
-        end_function {r} {B} d =
-            let m = row_of_lem (stated_row (last_of A u) last) function_ready d in
+        end_function {r} {B} d₀ =
+            let d = subst (λ (C : List ℕ). Acts cap at u (make at (record_of (stated_row (last_of C u) last)) 0) r C B) a d₀ in
+            let m = row_of_lem (stated_row (last_of A u) last) function_new d in
             let y = is_function_lem (last_of A t) e f in
             let b : u.records ≡ t.records = (c.kept x).records in
             let v : (left : ℕ) → Reads s cap comps left at u (make at (record_of (stated_row (last_of A t) last)) 0) r A B =
-            λ left. subst (λ (n : ℕ). Reads s cap comps left at u (make at (record_of (stated_row (node_at A n) last)) 0) r A B) b (acts_reads d function_ready)
+            λ left. subst (λ (n : ℕ). Reads s cap comps left at u (make at (record_of (stated_row (node_at A n) last)) 0) r A B) b (acts_reads d function_new)
             in
             item_made (c.kept x) (record { holds = refl; before = refl }) m
             (globals_by (last_of A t) (declared_at A last globals) true (is_constant (last_of A t)) y.0 refl)
@@ -409,7 +413,6 @@ module _ {cap : ℕ} {at : Place} {t : Tally} {A : List ℕ} {v : Row} (from : P
 -- ---- the loop over items: what is left of it answers for the whole
 
 pub record ItemTurns (s pool₀ : List ℕ) (cap comps left : ℕ) (at : Place) (t : Tally) (pool : List ℕ) (here : Place) (tally : Tally) (last globals : ℕ) : Type 0 where
-  pub same : length pool ≡ length pool₀
   pub ready : Ready s pool cap here tally
   pub turn : Turning s at here
   pub well : WellDeclared pool tally last
@@ -422,7 +425,6 @@ pub items_first : {s pool : List ℕ} {cap comps left : ℕ} {at : Place} {t : T
 items_first {s} {pool} {at = at} {t = t} g =
     let h : Declares pool t 0 nothing = declares_none in
     record {
-      same = refl;
       ready = g;
       turn = turn_first g.stands;
       well = well_declared h;
@@ -431,24 +433,24 @@ items_first {s} {pool} {at = at} {t = t} g =
     }
 
 module _ {s pool₀ : List ℕ} {cap comps left : ℕ} {at : Place} {t : Tally} {pool : List ℕ} {here : Place} {tally : Tally} {last globals : ℕ} (v : ItemTurns s pool₀ cap comps left at t pool here tally last globals)
-    {k : ItemHead} (e : k ≡ item_of s here) where
+    {k : Result ItemHead struct.Refused} (e : k ≡ item_of s here) where
   item_leads : ItemOn s here k
   item_leads = subst⁻¹ (ItemOn s here) e (item_on s here v.ready.stands)
 
   -- by what the item begins with
-  by_head : {h : ItemHead} {r : Out} {B : List ℕ} → k ≡ h
+  by_head : {h : Result ItemHead struct.Refused} {r : Out} {B : List ℕ} → k ≡ h
       → Does layout (grammar s) cap comps left tally (item_as s at (declared_at pool last globals) last h (λ d i q. items_p v.turn.fuel s at d i q)) r pool B
       → Does layout (grammar s) cap comps left t (items_p (turns s) s at nothing 0 at) r pool₀ B
   unfolding items_p
   by_head f d =
       v.rest _ _
-      (along (λ (h : ItemHead). item_as s at (declared_at pool last globals) last h (λ d i q. items_p v.turn.fuel s at d i q)) (sym f ∙ e) d)
+      (along (λ (h : Result ItemHead struct.Refused). item_as s at (declared_at pool last globals) last h (λ d i q. items_p v.turn.fuel s at d i q)) (sym f ∙ e) d)
 
-  pub items_wrong : {j : Refusal} {q : Place} → k ≡ Wrong j q
+  pub items_wrong : {j : Refusal} {q : Place} → k ≡ failed j q
       → Reads s cap comps left at t (items_p (turns s) s at nothing 0 at) (Refused j q tally) pool₀ pool
   items_wrong f = refuses (by_head f by_stop)
 
-  pub items_end : {q : Place} {r : Got} {after : List ℕ} → k ≡ End q → Acts cap q tally (unit_end_p at last q) r pool after
+  pub items_end : {q : Place} {r : Got} {after : List ℕ} → k ≡ Ok (End q) → Acts cap q tally (unit_end_p at last q) r pool after
       → Reads s cap comps left at t (items_p (turns s) s at nothing 0 at) r pool₀ after
   items_end f d =
       let a = subst (ItemOn s here) f item_leads in
@@ -456,20 +458,20 @@ module _ {s pool₀ : List ℕ} {cap comps left : ℕ} {at : Place} {t : Tally} 
       let j = v.turn.place.further in
       reads_on (by_head f) (omega arith) (acts_reads d (ready_at v.ready a.stands))
 
-  pub items_class : {h n : Place} → k ≡ Class h n → Ready s pool cap n tally × (here.offset < n.offset)
+  pub items_class : {h n : Place} → k ≡ Ok (Class h n) → Ready s pool cap n tally × (here.offset < n.offset)
   items_class f =
       let a = subst (ItemOn s here) f item_leads in
       let i = a.0.further in
       let j = a.1.further in
       (ready_at v.ready a.1.stands, omega arith)
 
-  pub items_statement : {h : Place} → k ≡ Statement h → Ready s pool cap h tally × (here.offset < (on_by 1 h).offset)
+  pub items_statement : {h : Place} → k ≡ Ok (Statement h) → Ready s pool cap h tally × (here.offset < (on_by 1 h).offset)
   items_statement f =
       let a = subst (ItemOn s here) f item_leads in
       let i = a.further in
       (ready_at v.ready a.stands, omega arith)
 
-  module _ {head : ItemHead} (f : k ≡ head) {low : Place} (i : here.offset < low.offset) {o : Got} {next : ℕ} {mid : List ℕ}
+  module _ {head : ItemHead} (f : k ≡ Ok head) {low : Place} (i : here.offset < low.offset) {o : Got} {next : ℕ} {mid : List ℕ}
       (d : Itemed s cap comps left last globals head low tally o next pool mid) where
     pub items_refused : {j : Refusal} {p : Place} {u : Tally} → o ≡ Refused j p u
         → Reads s cap comps left at t (items_p (turns s) s at nothing 0 at) o pool₀ mid
@@ -482,11 +484,10 @@ module _ {s pool₀ : List ℕ} {cap comps left : ℕ} {at : Place} {t : Tally} 
           let j = a.further in
           record { stands = a.stands; further = omega arith }
 
-      pub items_on : length mid ≡ length pool → ItemTurns s pool₀ cap comps left at t mid q u u.records next
-      items_on z =
+      pub items_on : ItemTurns s pool₀ cap comps left at t mid q u u.records next
+      items_on =
           let w = items_further in
           record {
-            same = z ∙ v.same;
             ready = d.ready x;
             turn = turn_on v.turn w;
             well = d.well x;
@@ -498,24 +499,24 @@ module _ {s pool₀ : List ℕ} {cap comps left : ℕ} {at : Place} {t : Tally} 
 
 -- ---- the unit
 
-module _ {s A : List ℕ} {cap : ℕ} {at : Place} {t : Tally} (g : Ready s A cap at t) {l : Look} (e : l ≡ keyword s at (ascii "from")) {h : Place} (f : l ≡ Missing h) where
+module _ {s A : List ℕ} {cap : ℕ} {at : Place} {t : Tally} (g : Ready s A cap at t) {l : Looked} (e : l ≡ keyword s at (ascii "from")) {h : Place} (f : l ≡ missing h) where
   unit_led : Reached s at h
   unit_led = subst (TokenOn s at (ascii "from")) (sym e ∙ f) (keyword_on s at (ascii "from") g.stands)
 
   pub unit_here : Ready s A cap h t
   unit_here = ready_at g unit_led.stands
 
-module _ {s A : List ℕ} {cap comps left : ℕ} {at : Place} {t : Tally} {l : Look} (e : l ≡ keyword s at (ascii "from")) where
-  pub unit_halts : {j : Refusal} {q : Place} → l ≡ Halted j q → Reads s cap comps left at t (unit_p s at) (Refused j q t) A A
+module _ {s A : List ℕ} {cap comps left : ℕ} {at : Place} {t : Tally} {l : Looked} (e : l ≡ keyword s at (ascii "from")) where
+  pub unit_halts : {j : Refusal} {q : Place} → l ≡ failed j q → Reads s cap comps left at t (unit_p s at) (Refused j q t) A A
   unfolding unit_p
-  unit_halts f = refuses (halted e f)
+  unit_halts f = refuses (by_halted e f)
 
-  pub unit_from : {h n : Place} → l ≡ Found h n → Reads s cap comps left at t (unit_p s at) (Refused LeadingFrom h t) A A
+  pub unit_from : {h n : Place} → l ≡ found h n → Reads s cap comps left at t (unit_p s at) (Refused LeadingFrom h t) A A
   unfolding unit_p
-  unit_from f = refuses (found e f by_stop)
+  unit_from f = refuses (by_found e f by_stop)
 
-  pub unit_read : {h : Place} {r : Got} {B : List ℕ} → Ready s A cap at t → l ≡ Missing h
+  pub unit_read : {h : Place} {r : Got} {B : List ℕ} → Ready s A cap at t → l ≡ missing h
       → Reads s cap comps left h t (items_p (turns s) s h nothing 0 h) r A B
       → Reads s cap comps left at t (unit_p s at) r A B
   unfolding unit_p
-  unit_read g f d = let a = (unit_led g e f).further in reads_on (missing e f) (omega arith) d
+  unit_read g f d = let a = (unit_led g e f).further in reads_on (by_missing e f) (omega arith) d

@@ -1,5 +1,5 @@
 -- THE RULES OF CLASSES SUIT: a class moves on inside the text and answers with the record of a class. Assumes nothing.
-use Rattle.std.specs.Prelude.{◌≡◌, Bool, length}
+use Rattle.std.specs.Prelude.{◌≡◌, Bool, length, Err, Ok, Result}
 use Rattle.std.proofs.Math.Path.{refl}
 use Rattle.std.proofs.Common.{sym, subst, arith}
 use mathlib.Core.List.{List, []}
@@ -15,8 +15,6 @@ use Rattle.reading.proofs.Laws.Rules.{Fits, fits_done, fits_stop, fits_make, fit
 use Rattle.records.specs.Kinds as table
 use Rattle.records.specs.Meanings.{Is, MayBe, none, some}
 use Rattle.records.proofs.Laws.Meanings.{is_new, maybe_since}
-use Rattle.grammar.specs.declared.heads.ClassHead.{ClassHead}
-use Rattle.grammar.specs.declared.heads.ClassHead.TheVariants.{Opened, Wrong}
 use Rattle.grammar.specs.Heads.{class_of}
 use Rattle.grammar.specs.HeadLaws.{ClassOn, class_on}
 use Rattle.unit.specs.HeadRefusing.{ClassProper, class_proper}
@@ -25,6 +23,8 @@ use Rattle.grammar.specs.Functions.{name_span, name_word}
 use Rattle.grammar.specs.Classes.{is_init, method_end_p, method_p, methods_p, class_end_p, class_as, class_p}
 use Rattle.unit.specs.Suits.Falling.{chosen, Works, MayWork, Room, called, still, beyond, advanced_then, turned, enough, fits_close}
 use Rattle.unit.specs.Suits.Functions.{fits_name, fits_name_of, fits_new_name}
+use Rattle.characters.specs.declared.refusal.Refused.{Refused}
+use Rattle.grammar.specs.declared.heads.ClassHead.{ClassHead}
 
 module _ (s : Text) (M : ℕ) where
   -- A method's item refers to its function and to the item before; an `init` without parameter is refused by 32.
@@ -70,11 +70,11 @@ module _ (s : Text) (M : ℕ) where
   class_works before from names p st i Q h =
       fits_name_of s p st (λ a q g. fits_new_name s q from (name_span a q) names _ (go a q g (class_of s q) (class_on s q g.stands) (class_proper s q)))
     where
-      go : (a q : Place) → Advanced s p q → (x : ClassHead) → ClassOn s q x → ClassProper x → Fits (chosen s) M before Q (class_as s from (name_word a q) x)
-      go a q g (Opened parent n) y k =
-          let z : Advanced s p n = advanced_on (advanced_reached g) y in
-          fits_bind (methods_work (turns s) before [] 0 n z.stands (enough s n) (none refl) (beyond z i) _ (λ now r l since x items.
-          class_end_works now from _ parent l r items Q
+      go : (a q : Place) → Advanced s p q → (x : Result ClassHead Refused) → ClassOn s q x → ClassProper x → Fits (chosen s) M before Q (class_as s from (name_word a q) x)
+      go a q g (Ok t) y k =
+          let z : Advanced s p t.next = advanced_on (advanced_reached g) y in
+          fits_bind (methods_work (turns s) before [] 0 t.next z.stands (enough s t.next) (none refl) (beyond z i) _ (λ now r l since x items.
+          class_end_works now from _ t.parent l r items Q
           (λ now' r' e since' u number.
           h now' r' e (since_trans since since') (subst (Advanced s p) (sym u) (advanced_on (advanced_reached z) x)) number)))
-      go a q g (Wrong r u) y k = fits_stop k
+      go a q g (Err e) y k = fits_stop k

@@ -1,6 +1,6 @@
 -- THE RULES OF EXPRESSIONS SUIT: each moves on inside the text, so every loop has turns enough; it answers with the record of an expression;
 -- and its records' fields are what the table says of them. Assumes nothing.
-use Rattle.std.specs.Prelude.{◌≡◌, Bool, length}
+use Rattle.std.specs.Prelude.{◌≡◌, Bool, length, Err, Ok, Result}
 use Rattle.std.proofs.Math.Path.{refl}
 use Rattle.std.proofs.Common.{sym, subst, arith}
 use mathlib.Core.List.{List, [], ◌∷◌}
@@ -18,11 +18,8 @@ use Rattle.reading.proofs.Laws.Rules.{Fits, fits_done, fits_stop, fits_make, fit
 use Rattle.records.specs.Kinds as table
 use Rattle.records.specs.Meanings.{Is, MayBe, none, some}
 use Rattle.records.proofs.Laws.Meanings.{is_since, is_new, maybe_since}
-use Rattle.grammar.specs.declared.leaves.Prefix.{Prefix}
 use Rattle.grammar.specs.declared.leaves.Prefix.TheVariants as prefix
-use Rattle.grammar.specs.declared.leaves.Atom.{Atom}
 use Rattle.grammar.specs.declared.leaves.Atom.TheVariants as atom
-use Rattle.grammar.specs.declared.leaves.Postfix.{Postfix}
 use Rattle.grammar.specs.declared.leaves.Postfix.TheVariants as post
 use Rattle.grammar.specs.declared.leaves.Suffix.{Suffix}
 use Rattle.grammar.specs.declared.leaves.Suffix.TheVariants as suffix
@@ -35,6 +32,10 @@ use Rattle.grammar.specs.AtomLaws.{AtomOn, atom_on}
 use Rattle.unit.specs.Refusing.{MustProper, PrefixProper, prefix_proper, AtomProper, atom_proper, PostfixProper, postfix_proper, key_proper}
 use Rattle.grammar.specs.Expressions.{expression, operand, Rule, turns, element_p, list_p, new_key, value_p, pair_p, dict_p, paren_p, array_p, closure_p, atom_as, atom_p, call_p, index_p, extend_p, postfix_as, postfixes_p, postfix_p, minus_p, plus_p, sign_p, prefix_as, prefix_p, Pending, reduce_p, choice_p, link_as, chain_p, expression_p}
 use Rattle.unit.specs.Suits.Falling.{chosen, Works, MayWork, Room, called, below, still, advanced_then, turned, enough, fits_close, fits_follow, fits_token, fits_expected}
+use Rattle.characters.specs.declared.refusal.Refused.{Refused}
+use Rattle.grammar.specs.declared.leaves.Atom.{Atom}
+use Rattle.grammar.specs.declared.leaves.Postfix.{Postfix}
+use Rattle.grammar.specs.declared.leaves.Prefix.{Prefix}
 
 -- ---- keys
 
@@ -133,19 +134,19 @@ module _ (s : Text) (M : ℕ) where
   unfolding atom_p closure_p
   atom_works before p st i Q h = go (atom_of s p) (atom_on s p st) (atom_proper s p)
     where
-      go : (x : Atom) → AtomOn s p x → AtomProper x → Fits (chosen s) M before Q (atom_as s p x)
-      go (atom.Leaf kind v n) g k = fits_make (g.0.meant before p v) (λ now w. h now n _ (since_with w) g.1 (is_new w g.0.expression))
-      go (atom.Paren n) g k =
+      go : (x : Result Atom Refused) → AtomOn s p x → AtomProper x → Fits (chosen s) M before Q (atom_as s p x)
+      go (Ok (atom.Leaf kind v n)) g k = fits_make (g.0.meant before p v) (λ now w. h now n _ (since_with w) g.1 (is_new w g.0.expression))
+      go (Ok (atom.Paren n)) g k =
           paren_works before n g.stands (below g i) Q (λ now q e since x number. h now q e since (advanced_on (advanced_reached g) x) number)
-      go (atom.Bracket n) g k =
+      go (Ok (atom.Bracket n)) g k =
           array_works before p n g.stands (below g i) Q (λ now q e since x number. h now q e since (advanced_on (advanced_reached g) x) number)
-      go (atom.Brace n) g k =
+      go (Ok (atom.Brace n)) g k =
           dict_works (turns s) before p [] 0 n g.stands (enough s n) (none refl) (below g i) Q
           (λ now q e since x number. h now q e since (advanced_on (advanced_reached g) x) number)
-      go atom.Bar g k =
+      go (Ok atom.Bar) g k =
           fits_bind (fits_call g i.left (λ now q f since b. fits_make (b.1, tt)
           (λ now' w. h now' q _ (since_trans since (since_with w)) b.0 (is_new w tt))))
-      go (atom.Wrong r q) g k = fits_stop k
+      go (Err e) g k = fits_stop k
 
   -- ---- what follows a base
 
@@ -167,7 +168,7 @@ module _ (s : Text) (M : ℕ) where
       fits_make (is_since since l, (b.1, tt)) (λ now' w. h now' n _ (since_trans since (since_with w)) (advanced_then b.0 g) (is_new w tt)))))
 
   -- A base with one suffix more moves on.
-  extend_works : (before : List Rec) (base : Node) (p : Place) (x : Suffix) → PostfixOn s p (post.More x) → Is before table.expression base.number
+  extend_works : (before : List Rec) (base : Node) (p : Place) (x : Suffix) → PostfixOn s p (Ok (post.More x)) → Is before table.expression base.number
       → Room 0 s p M → Works s M before (Advanced s p) table.expression (extend_p s base x)
   extend_works before base p (suffix.Call a n) g l i Q h =
       call_works before base a n g.1.stands l (below g.1 i) Q
@@ -189,12 +190,12 @@ module _ (s : Text) (M : ℕ) where
       postfixes_work f now e q x.stands (turned x k) number (still (advanced_reached x) i) Q
       (λ now' q' e' since' x' number'. h now' q' e' (since_trans since since') (reached_on (advanced_reached x) x') number'))
     where
-      go : (x : Postfix) → PostfixOn s p x → PostfixProper x
+      go : (x : Result Postfix Refused) → PostfixOn s p x → PostfixProper x
           → ((now : List Rec) (q : Place) (e : Node) → Since before now → Advanced s p q → Is now table.expression e.number → Fits (chosen s) M now Q (postfixes_p f s e q))
           → Fits (chosen s) M before Q (postfix_as s base x (postfixes_p f s))
-      go (post.More x) g c again = fits_bind (extend_works before base p x g l i _ again)
-      go (post.Rest a) g c again = fits_done (h before a base (since_same before) g l)
-      go (post.Wrong r q) g c again = fits_stop c
+      go (Ok (post.More x)) g c again = fits_bind (extend_works before base p x g l i _ again)
+      go (Ok (post.Rest a)) g c again = fits_done (h before a base (since_same before) g l)
+      go (Err e) g c again = fits_stop c
 
   -- An atom and its suffixes move on.
   pub postfix_works : (before : List Rec) (p : Place) → Stands s p → Room 0 s p M → Works s M before (Advanced s p) table.expression (postfix_p s p)
@@ -233,14 +234,14 @@ module _ (s : Text) (M : ℕ) where
   unfolding prefix_p
   prefix_works before p st i Q h = go (prefix_of s p) (prefix_on s p st) (prefix_proper s p)
     where
-      go : (x : Prefix) → PrefixOn s p x → PrefixProper x → Fits (chosen s) M before Q (prefix_as s x)
-      go (prefix.Sign sign a n) g k =
+      go : (x : Result Prefix Refused) → PrefixOn s p x → PrefixProper x → Fits (chosen s) M before Q (prefix_as s x)
+      go (Ok (prefix.Sign sign a n)) g k =
           let y : Advanced s p n = advanced_on g.0 g.1 in
           fits_bind (fits_call y.stands (called operand (below y i)) (λ now q e since b. sign_works now sign a e q b.1 Q
           (λ now' q' e' since' z number. h now' q' e' (since_trans since since') (subst (Advanced s p) (sym z) (advanced_on (advanced_reached y) b.0)) number)))
-      go (prefix.Other a) g k =
+      go (Ok (prefix.Other a)) g k =
           postfix_works before a g.stands (still g i) Q (λ now q e since x number. h now q e since (advanced_on g x) number)
-      go (prefix.Wrong r q) g k = fits_stop k
+      go (Err e) g k = fits_stop k
 
 -- ---- chains
 

@@ -1,14 +1,12 @@
 -- THE RULES OF PARAMETERS, BLOCKS, FUNCTIONS AND LAMBDAS SUIT: a block answers with the record of a statement, a function and a lambda with
 -- that of a function. Assumes nothing.
-use Rattle.std.specs.Prelude.{◌≡◌, eqb, length}
+use Rattle.std.specs.Prelude.{◌≡◌, eqb, length, Err, Ok}
 use Rattle.std.proofs.Math.Path.{refl}
 use Rattle.std.proofs.Common.{sym, subst, arith}
 use mathlib.Core.List.{List, [], ◌∷◌}
 use Prim.Native.Nat.{ℕ, zero, suc, ◌+◌, ◌-◌, ◌*◌, ◌≤◌, ◌<◌}
 use Rattle.characters.specs.declared.place.Place.{Place}
 use Rattle.characters.specs.declared.place.Span.{Span}
-use Rattle.characters.specs.declared.tokens.Must.{Must}
-use Rattle.characters.specs.declared.tokens.Must.TheVariants.{Taken, Failed}
 use Rattle.characters.specs.Text.{Text, ascii, on_by, Stands}
 use Rattle.characters.specs.PlaceLaws.{Reached, Advanced, reached_on, advanced_on, advanced_reached}
 use Rattle.characters.specs.Names.{name, free_by, free_name, part, word_of}
@@ -33,21 +31,22 @@ use Rattle.unit.specs.HeadRefusing.{free_proper, name_of_proper, keyword_proper,
 use Rattle.grammar.specs.Expressions.{Rule, expression, statement, turns}
 use Rattle.grammar.specs.Functions.{name_span, name_word, new_name, param_row, param_p, params_p, parameters_p, block_item_p, statements_p, block_p, fun_p, body_block_p, function_p, implied_return_p, lambda_body_p, lambda_p}
 use Rattle.unit.specs.Suits.Falling.{chosen, Works, MayWork, Room, called, still, beyond, advanced_then, turned, enough, fits_close, fits_follow, fits_token, fits_expected}
+use Rattle.characters.specs.Answers.{Must}
 
 -- ---- by what the leaves find
 
 -- Where a name leads that is no reserved word: over it.
 abbrev FreeOn : Text → Place → Must → Type 0
-FreeOn s p (Taken h q) = Advanced s p q
-FreeOn s p (Failed k q) = Unit {0}
+FreeOn s p (Ok t) = Advanced s p t.next
+FreeOn s p (Err e) = Unit {0}
 
 free_on : (s : Text) (p : Place) → Stands s p → FreeOn s p (free_name s p)
 unfolding free_name
 free_on s p st = go (name s p) (name_on s p st)
   where
     go : (r : Must) → NamedOn s p r → FreeOn s p (free_by s r)
-    go (Taken h q) g = either (FreeOn s p) (eqb (word_of (part s h.offset q.offset)) 0) (λ e. g.1) (λ e. tt)
-    go (Failed k q) g = tt
+    go (Ok t) g = either (FreeOn s p) (eqb (word_of (part s t.here.offset t.next.offset)) 0) (λ e. g.1) (λ e. tt)
+    go (Err e) g = tt
 
 module _ (s : Text) {M : ℕ} {before : List Rec} {Q : Claim} where
   -- A name is gone over;

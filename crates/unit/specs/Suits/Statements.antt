@@ -1,5 +1,5 @@
 -- THE RULES OF STATEMENTS SUIT: each moves on inside the text and answers with the record of a statement. Assumes nothing.
-use Rattle.std.specs.Prelude.{◌≡◌, List, [], ◌∷◌, Bool, true, false, ℕ, ◌+◌, T, eqb, length}
+use Rattle.std.specs.Prelude.{◌≡◌, List, [], ◌∷◌, Bool, true, false, ℕ, ◌+◌, T, eqb, length, Err, None, Ok, Option, Result, Some}
 use Rattle.std.proofs.Math.Path.{refl}
 use Rattle.std.proofs.Common.{sym, subst, ◌∙◌, arith, eq-eqb}
 use Rattle.characters.specs.declared.place.Place.{Place}
@@ -18,14 +18,8 @@ use Rattle.records.specs.Kinds as table
 use Rattle.records.specs.Rows.{record_of}
 use Rattle.records.specs.Meanings.{is_a, Is, MayBe, none, some, Meant}
 use Rattle.records.proofs.Laws.Meanings.{is_since, is_new, maybe_since}
-use Rattle.grammar.specs.declared.heads.StatementHead.{StatementHead}
 use Rattle.grammar.specs.declared.heads.StatementHead.TheVariants as head
-use Rattle.grammar.specs.declared.heads.StepHead.{StepHead}
 use Rattle.grammar.specs.declared.heads.StepHead.TheVariants as steps
-use Rattle.grammar.specs.declared.heads.Assignment.{Assignment}
-use Rattle.grammar.specs.declared.heads.Assignment.TheVariants.{Sign, Absent}
-use Rattle.grammar.specs.declared.heads.LetHead.{LetHead}
-use Rattle.grammar.specs.declared.heads.LetHead.TheVariants as lets
 use Rattle.grammar.specs.Leaves.{row_of, leaf_row}
 use Rattle.grammar.specs.Heads.{head_of, step_of, assign_of, let_of}
 use Rattle.grammar.specs.HeadLaws.{HeadOn, head_on, StepOn, step_on, AssignOn, assign_on, LetOn, let_on}
@@ -36,6 +30,11 @@ use Rattle.grammar.specs.Statements.{absent, return_p, jump_p, condition_p, cont
 use Rattle.unit.specs.Suits.Falling.{chosen, Works, MayWork, Room, called, lighter, below, still, advanced_then, fits_token, fits_expected}
 use Rattle.unit.specs.Suits.Expressions.{paren_works, postfix_works}
 use Rattle.unit.specs.Suits.Functions.{fits_name_of, fits_keyword, block_works}
+use Rattle.characters.specs.declared.refusal.Refused.{Refused}
+use Rattle.grammar.specs.declared.heads.Assignment.{Assignment}
+use Rattle.grammar.specs.declared.heads.LetHead.{LetHead}
+use Rattle.grammar.specs.declared.heads.StatementHead.{StatementHead}
+use Rattle.grammar.specs.declared.heads.StepHead.{StepHead}
 
 -- What may be none is one where its number is not 0.
 present : {made : List Rec} {m : Meaning} {k : ℕ} → MayBe made m k → eqb k 0 ≡ false → Is made m k
@@ -171,15 +170,15 @@ module _ (s : Text) (M : ℕ) where
       → Room 2 s p M → Works s M before (Reached s p) table.statement (assign_as s end from e p (assign_of s p))
   assign_works before end from e p st l i Q h = go (assign_of s p) (assign_on s p st)
     where
-      go : (x : Assignment) → AssignOn s p x → Fits (chosen s) M before Q (assign_as s end from e p x)
-      go (Sign op n) g =
-          let y : Reached s p n = advanced_reached g.0 in
+      go : (x : Option Assignment) → AssignOn s p x → Fits (chosen s) M before Q (assign_as s end from e p x)
+      go (Some x) g =
+          let y : Reached s p x.next = advanced_reached g.0 in
           fits_target e (fits_bind (fits_call y.stands (called expression (still y i)) (λ now q v since b.
           fits_expected s q (end ∷ []) b.0.stands (λ a m k.
-          store_works now from op e v m (is_since since l) b.1 Q
+          store_works now from x.op e v m (is_since since l) b.1 Q
           (λ now' r e' since' z number.
           h now' r e' (since_trans since since') (subst (Reached s p) (sym z) (reached_on y (advanced_reached (advanced_then b.0 k)))) number)))))
-      go Absent g =
+      go None g =
           fits_expected s p (end ∷ []) st
           (λ a n k. do_works before from e n l Q (λ now r e' since z number. h now r e' since (subst (Reached s p) (sym z) k) number))
 
@@ -189,17 +188,17 @@ module _ (s : Text) (M : ℕ) where
   unfolding expr_or_assign_p
   expr_or_assign_works before end p st i Q h = go (step_of s p) (step_on s p st) (step_proper s p)
     where
-      go : (x : StepHead) → StepOn s p x → StepProper x → Fits (chosen s) M before Q (expr_or_assign_as s end p x)
-      go (steps.Step op n) g k =
+      go : (x : Result StepHead Refused) → StepOn s p x → StepProper x → Fits (chosen s) M before Q (expr_or_assign_as s end p x)
+      go (Ok (steps.Step op n)) g k =
           fits_bind (postfix_works s M before n g.0.stands (lighter (omega arith) (below g.0 i)) _ (λ now q e since x number.
           increment_works now end p op e q x.stands number Q
           (λ now' q' e' since' x' number'.
           h now' q' e' (since_trans since since') (advanced_then (advanced_on (advanced_reached g.0) x) x') number')))
-      go steps.Other g k =
+      go (Ok steps.Other) g k =
           fits_bind (fits_call st i.left (λ now q e since b.
           assign_works now end p e q b.0.stands b.1 (below b.0 i) Q
           (λ now' q' e' since' x' number'. h now' q' e' (since_trans since since') (advanced_then b.0 x') number')))
-      go (steps.Wrong r q) g k = fits_stop k
+      go (Err e) g k = fits_stop k
 
   -- ---- for
 
@@ -266,15 +265,15 @@ module _ (s : Text) (M : ℕ) where
   unfolding let_p
   let_works before from p st i Q h = go (let_of s p) (let_on s p st) (let_proper s p)
     where
-      go : (x : LetHead) → LetOn s p x → LetProper x → Fits (chosen s) M before Q (let_as s from x)
-      go (lets.Named mark name n) g k =
-          let y : Reached s p n = advanced_reached g.0 in
+      go : (x : Result LetHead Refused) → LetOn s p x → LetProper x → Fits (chosen s) M before Q (let_as s from x)
+      go (Ok t) g k =
+          let y : Reached s p t.next = advanced_reached g.0 in
           fits_bind (fits_call y.stands (called expression (still y i)) (λ now q e since b.
           fits_expected s q (ascii ";") b.0.stands (λ a m c.
-          declare_works now from mark name e m b.1 Q
+          declare_works now from t.mark t.span e m b.1 Q
           (λ now' r e' since' z number.
           h now' r e' (since_trans since since') (subst (Reached s p) (sym z) (reached_on y (advanced_reached (advanced_then b.0 c)))) number))))
-      go (lets.Wrong r q) g k = fits_stop k
+      go (Err e) g k = fits_stop k
 
   -- The closure of a named function refers to it, and its `let` to the closure.
   fun_statement_works : (before : List Rec) (from p : Place) → Stands s p → Room 2 s p M
@@ -302,19 +301,19 @@ module _ (s : Text) (M : ℕ) where
           let y : Advanced s p n = advanced_on g.0 g.1 in
           works (below y i) Q (λ now q e since x number. h now q e since (advanced_then y x) number)
 
-      go : (x : StatementHead) → HeadOn s p x → HeadProper x → Fits (chosen s) M before Q (statement_as s x)
-      go (head.Return a n) g k = after (return_works before a n g.1.stands) g
-      go (head.Break a n) g k = after (λ r. jump_works before kinds.Break a n g.1.stands tt tt) g
-      go (head.Continue a n) g k = after (λ r. jump_works before kinds.Continue a n g.1.stands tt tt) g
-      go (head.If a n) g k = after (if_works before a n g.1.stands) g
-      go (head.Loop a n) g k = after (loop_works before a n g.1.stands) g
-      go (head.While a n) g k = after (while_works before a n g.1.stands) g
-      go (head.For a n) g k = after (for_works before a n g.1.stands) g
-      go (head.Assert a n) g k = after (assert_works before a n g.1.stands) g
-      go (head.Let a n) g k = after (let_works before a n g.1.stands) g
-      go (head.Fun a n) g k = after (fun_statement_works before a n g.1.stands) g
-      go (head.Block a n) g k =
+      go : (x : Result StatementHead Refused) → HeadOn s p x → HeadProper x → Fits (chosen s) M before Q (statement_as s x)
+      go (Ok (head.Return a n)) g k = after (return_works before a n g.1.stands) g
+      go (Ok (head.Break a n)) g k = after (λ r. jump_works before kinds.Break a n g.1.stands tt tt) g
+      go (Ok (head.Continue a n)) g k = after (λ r. jump_works before kinds.Continue a n g.1.stands tt tt) g
+      go (Ok (head.If a n)) g k = after (if_works before a n g.1.stands) g
+      go (Ok (head.Loop a n)) g k = after (loop_works before a n g.1.stands) g
+      go (Ok (head.While a n)) g k = after (while_works before a n g.1.stands) g
+      go (Ok (head.For a n)) g k = after (for_works before a n g.1.stands) g
+      go (Ok (head.Assert a n)) g k = after (assert_works before a n g.1.stands) g
+      go (Ok (head.Let a n)) g k = after (let_works before a n g.1.stands) g
+      go (Ok (head.Fun a n)) g k = after (fun_statement_works before a n g.1.stands) g
+      go (Ok (head.Block a n)) g k =
           after (λ r Q' h'. block_works s M before a n g.1.stands r Q' (λ now q e since x number. h' now q e since (advanced_reached x) number)) g
-      go (head.ExprOrAssign a) g k =
+      go (Ok (head.ExprOrAssign a)) g k =
           expr_or_assign_works before 59 a g.stands (still g i) Q (λ now q e since x number. h now q e since (advanced_on g x) number)
-      go (head.Wrong r q) g k = fits_stop k
+      go (Err e) g k = fits_stop k

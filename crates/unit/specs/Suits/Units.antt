@@ -1,5 +1,5 @@
 -- THE RULES OF THE UNIT SUIT, and with them THE GRAMMAR SUITS: every text that can be held. Assumes nothing.
-use Rattle.std.specs.Prelude.{◌≡◌, Bool, true, false, ◌&&◌, eqb, length}
+use Rattle.std.specs.Prelude.{◌≡◌, Bool, true, false, ◌&&◌, eqb, length, Err, Ok, Result}
 use Rattle.std.proofs.Math.Path.{refl}
 use Rattle.std.proofs.Common.{sym, subst, arith}
 use mathlib.Core.List.{List, []}
@@ -20,8 +20,7 @@ use Rattle.records.specs.Kinds as table
 use Rattle.records.specs.Rows.{record_of}
 use Rattle.records.specs.Meanings.{Is, MayBe, none, some}
 use Rattle.records.proofs.Laws.Meanings.{is_new, maybe_since, meant_earlier}
-use Rattle.grammar.specs.declared.heads.ItemHead.{ItemHead}
-use Rattle.grammar.specs.declared.heads.ItemHead.TheVariants.{End, Class, Statement, Wrong}
+use Rattle.grammar.specs.declared.heads.ItemHead.TheVariants.{End, Class, Statement}
 use Rattle.grammar.specs.Heads.{item_of}
 use Rattle.grammar.specs.HeadLaws.{ItemOn, item_on}
 use Rattle.unit.specs.HeadRefusing.{ItemProper, item_proper}
@@ -33,6 +32,8 @@ use Rattle.unit.specs.Suits.Expressions.{prefix_works, expression_works}
 use Rattle.unit.specs.Suits.Functions.{fits_keyword, fits_new_name, function_works, lambda_works}
 use Rattle.unit.specs.Suits.Statements.{statement_works}
 use Rattle.unit.specs.Suits.Classes.{class_works}
+use Rattle.characters.specs.declared.refusal.Refused.{Refused}
+use Rattle.grammar.specs.declared.heads.ItemHead.{ItemHead}
 
 -- ---- the unit
 
@@ -77,21 +78,21 @@ module _ (s : Text) (M : ℕ) where
       items_work f now from e j q x.stands (turned x k) (some number) (still (advanced_reached x) i) Q
       (λ now' q' e' since' x' number'. h now' q' e' (since_trans since since') (reached_on (advanced_reached x) x') number'))
     where
-      go : (x : ItemHead) → ItemOn s p x → ItemProper x
+      go : (x : Result ItemHead Refused) → ItemOn s p x → ItemProper x
           → ((now : List Rec) (e : Declared) (j : ℕ) (q : Place) → Since before now → Advanced s p q → Is now table.items j → Fits (chosen s) M now Q (items_p f s from e j q))
           → Fits (chosen s) M before Q (item_as s from d last x (λ e j q. items_p f s from e j q))
-      go (End a) g c again =
+      go (Ok (End a)) g c again =
           unit_end_works before from last a l Q (λ now q e since z number. h now q e since (subst (Reached s p) (sym z) g) number)
-      go (Class a n) g c again =
+      go (Ok (Class a n)) g c again =
           let y : Advanced s p n = advanced_on g.0 g.1 in
           fits_bind (fits_call y.stands (called (class a d.classes) (still (advanced_reached y) i)) (λ now q e since b.
           fits_bind (class_item_works now a e last q b.1 (maybe_since since l) _ (λ now' r j since' z number.
           again now' _ j.number r (since_trans since since') (subst (Advanced s p) (sym z) (advanced_on (advanced_reached y) b.0)) number))))
-      go (Statement a) g c again =
+      go (Ok (Statement a)) g c again =
           fits_bind (fits_call g.stands (called statement (still g i)) (λ now q e since b.
           fits_bind (unit_item_works now d e last q b.1 (maybe_since since l) _ (λ now' r j since' z number.
           again now' _ j.number r (since_trans since since') (subst (Advanced s p) (sym z) (advanced_on g b.0)) number))))
-      go (Wrong r q) g c again = fits_stop c
+      go (Err e) g c again = fits_stop c
 
   -- A unit is read to its end, or is refused; by 4 where it begins with `from`.
   unit_works : (p : Place) → Stands s p → Room 2 s p M → Works s M [] (Reached s p) table.function (unit_p s p)

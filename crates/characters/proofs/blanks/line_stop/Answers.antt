@@ -1,5 +1,5 @@
 -- `line_stop` goes along a line, to its LF. Assumes nothing.
-use Rattle.std.proofs.Common.{refl, sym, arith}
+use Rattle.std.proofs.Common.{◌≡◌, ◌∙◌, length, refl, sym, arith}
 use Rattle.characters.specs.Blanks.{is_in_line}
 use Rattle.characters.specs.BlankLaws.{in_line, no_line}
 use Rattle.characters.specs.CountLaws.{run_starts, run_on, past_one, past_two, past_three, past_four, run_ends, run_out}
@@ -23,14 +23,14 @@ returns-then-text-i-eq10-4 c = run_ends is_in_line c.args.text.now _ (past_three
 pub loop-i-preserved : goal.loop-i-preserved
 loop-i-preserved c = past_four is_in_line c.args.text.now c.loop-i.invariant c.loop-i-test.true (in_line _ c.if-text-i-eq10.false) (in_line _ c.if-text-i-eq10-2.false) (in_line _ c.if-text-i-eq10-3.false) (in_line _ c.if-text-i-eq10-4.false)
 
-pub loop-i-2-init : goal.loop-i-2-init
-loop-i-2-init c = c.loop-i.invariant
+pub loop-j-init : goal.loop-j-init
+loop-j-init c = c.loop-i.invariant
 
-pub returns-then-text-i-eq10-5 : goal.returns-then-text-i-eq10-5
-returns-then-text-i-eq10-5 c = run_ends is_in_line c.args.text.now _ c.loop-i-2.invariant (sym (no_line _ c.if-text-i-eq10-5.true)) refl refl c.loop-i-2-test.true
+pub returns-then-text-j-eq10 : goal.returns-then-text-j-eq10
+returns-then-text-j-eq10 c = run_ends is_in_line c.args.text.now _ c.loop-j.invariant (sym (no_line _ c.if-text-j-eq10.true)) refl refl c.loop-j-test.true
 
-pub loop-i-2-preserved : goal.loop-i-2-preserved
-loop-i-2-preserved c = run_on is_in_line c.args.text.now _ c.loop-i-2.invariant (sym (in_line _ c.if-text-i-eq10-5.false)) refl refl c.loop-i-2-test.true
+pub loop-j-preserved : goal.loop-j-preserved
+loop-j-preserved c = run_on is_in_line c.args.text.now _ c.loop-j.invariant (sym (in_line _ c.if-text-j-eq10.false)) refl refl c.loop-j-test.true
 
 pub returns : goal.returns
-returns c = run_out is_in_line c.args.text.now _ c.loop-i-2.invariant refl c.loop-i-2-test.false
+returns c = (let e : length c.args.text.now ≡ c.loop-j.j = omega arith in e) ∙ run_out is_in_line c.args.text.now _ c.loop-j.invariant refl c.loop-j-test.false

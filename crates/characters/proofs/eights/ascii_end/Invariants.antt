@@ -10,8 +10,5 @@ invariant-loop-i l = In is_ascii l.text l.from l.i
 abbrev pub decreases-loop-i : goal.decreases-loop-i
 decreases-loop-i l = length l.text - l.i
 
-abbrev pub invariant-loop-i-2 : goal.invariant-loop-i-2
-invariant-loop-i-2 l = In is_ascii l.text l.from l.i
-
-abbrev pub decreases-loop-i-2 : goal.decreases-loop-i-2
-decreases-loop-i-2 l = length l.text - l.i
+abbrev pub invariant-loop-j : goal.invariant-loop-j
+invariant-loop-j l = In is_ascii l.text l.from l.j

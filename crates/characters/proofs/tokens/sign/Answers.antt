@@ -3,7 +3,7 @@ use Rattle.std.proofs.Common.{refl, arith}
 use borrow.Author.Tests.{not-true}
 use Rattle.characters.specs.PlaceLaws.{room}
 use Rattle.characters.specs.BlankLaws.{only_spaces, spaced_stands}
-use Rattle.characters.proofs.Looking.{passed, sign_by, token_halts}
+use Rattle.characters.proofs.Looking.{passed, sign_by}
 use Rattle.characters.proofs.tokens.sign.Goals as goal
 
 pub on-near-requires : goal.on-near-requires
@@ -13,13 +13,10 @@ pub sign_at-requires : goal.sign_at-requires
 sign_at-requires c = let h = room (spaced_stands c.requires c.spaces-n.ensures c.on-near.ensures) in (omega arith, omega arith)
 
 pub returns-then-not-opens_blank : goal.returns-then-not-opens_blank
-returns-then-not-opens_blank c = sign_by c.requires (only_spaces c.spaces-n.ensures c.on-near.ensures c.byte-first.ensures c.opens_blank.ensures (not-true _ c.if-not-opens_blank.true-raw)) refl (omega arith) c.byte-first.ensures c.sign_at.ensures
+returns-then-not-opens_blank c = sign_by c.requires (only_spaces c.spaces-n.ensures c.on-near.ensures c.byte-first.ensures c.opens_blank.ensures (not-true _ c.if-not-opens_blank.true-raw)) (omega arith) c.byte-first.ensures c.sign_at.ensures
 
-pub sign_at-requires-in-Taken : goal.sign_at-requires-in-Taken
-sign_at-requires-in-Taken c = let h = room (passed c.requires c.skip-blanks.ensures c.in-Taken.is).stands in (omega arith, omega arith)
+pub sign_at-requires-2 : goal.sign_at-requires-2
+sign_at-requires-2 c = let h = room (passed c.requires c.in_ok-here.ensures).stands in (omega arith, omega arith)
 
-pub returns-in-Failed : goal.returns-in-Failed
-returns-in-Failed c = token_halts _ _ _ _ _ _ c.skip-blanks.ensures c.in-Failed.is
-
-pub returns-in-Taken : goal.returns-in-Taken
-returns-in-Taken c = sign_by c.requires c.skip-blanks.ensures c.in-Taken.is (omega arith) c.byte-stands.ensures c.sign_at-in-Taken.ensures
+pub returns : goal.returns
+returns c = sign_by c.requires c.in_ok-here.ensures (omega arith) c.byte-stands.ensures c.sign_at-2.ensures

@@ -1,11 +1,8 @@
 -- `link_of` tells a link by its first bytes. Assumes nothing.
 use Rattle.std.proofs.Common.{ap, ◌∙◌}
-use Rattle.grammar.proofs.Links.{linked, operated, operator_fits}
+use Rattle.grammar.proofs.Links.{linked, operated}
 use Rattle.grammar.specs.declared.leaves.Link.TheVariants.{Choice}
 use Rattle.grammar.proofs.operators.link_of.Goals as goal
-
-pub on-next-requires-in_default : goal.on-next-requires-in_default
-on-next-requires-in_default c = operator_fits c.args.at c.byte-a.ensures c.byte-b.ensures c.byte-c.ensures c.sign_of-sign.ensures c.in_default.in_default-own.rest c.width_of-n.ensures c.requires
 
 pub returns-in-0 : goal.returns-in-0
 returns-in-0 c = linked c.args.at c.byte-a.ensures c.byte-b.ensures c.byte-c.ensures c.sign_of-sign.ensures 0 c.in-0.is

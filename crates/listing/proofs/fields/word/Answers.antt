@@ -6,4 +6,4 @@ use Rattle.characters.specs.Text.{Text}
 use Rattle.listing.proofs.fields.word.Goals as goal
 
 pub returns : goal.returns
-returns c = said (ap (λ (x : Text). 32 ∷ x) (ap up_to_space c.word_start-from.ensures ∙ word_at _ _)) (then c.put-next.ensures c.word_from.ensures)
+returns c = said (ap (λ (x : Text). 32 ∷ x) (ap up_to_space c.words_from-rest.ensures ∙ word_at _ _)) (then c.put-next.ensures c.first_word.ensures)

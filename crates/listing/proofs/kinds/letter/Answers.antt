@@ -6,11 +6,11 @@ use Rattle.characters.specs.Names.{same}
 use Rattle.listing.proofs.kinds.letter.Goals as goal
 
 pub overflow_mul-at : goal.overflow_mul-at
-overflow_mul-at c = let z = number_bound c.args.kind in let y = c.number-number.ensures in omega arith
+overflow_mul-at c = let z = number_bound c.args.kind in let y = c.from-number.ensures in omega arith
 
 pub overflow_add-at : goal.overflow_add-at
-overflow_add-at c = let z = number_bound c.args.kind in let y = c.number-number.ensures in omega arith
+overflow_add-at c = let z = number_bound c.args.kind in let y = c.from-number.ensures in omega arith
 
 pub returns : goal.returns
 unfolding same
-returns c = c.byte.ensures.is ∙ ap (λ (n : ℕ). get_or (rows kinds) (n * 6 + c.args.i) 256) c.number-number.ensures ∙ letter_at c.args.kind c.args.i (omega arith)
+returns c = c.byte.ensures.is ∙ ap (λ (n : ℕ). get_or (rows kinds) (n * 6 + c.args.i) 256) c.from-number.ensures ∙ letter_at c.args.kind c.args.i (omega arith)

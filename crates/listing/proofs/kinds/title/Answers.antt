@@ -8,4 +8,4 @@ use Rattle.listing.proofs.kinds.title.Goals as goal
 
 pub returns : goal.returns
 unfolding split
-returns c = said (ap (λ (x : Text). 32 ∷ x) (ap (λ (n : ℕ). get_or names n []) c.number-number.ensures ∙ name_at c.args.kind)) c.word.ensures
+returns c = said (ap (λ (x : Text). 32 ∷ x) (ap (λ (n : ℕ). get_or names n []) c.from-number.ensures ∙ name_at c.args.kind)) c.word.ensures

@@ -4,8 +4,8 @@ use Rattle.listing.specs.Laws.Texts.{Printing, pairs_from}
 use Rattle.listing.specs.Sheets.{sheet}
 use Rattle.listing.proofs.texts.pairs.Given as goal
 
-abbrev pub invariant-loop-value : goal.invariant-loop-value
-invariant-loop-value l = Printing l.text (pairs_from l.text l.initial.p) (sheet l.initial.out l.at) (sheet l.out l.next) l.mode l.last l.p
+abbrev pub invariant-loop-seen : goal.invariant-loop-seen
+invariant-loop-seen l = Printing l.text (pairs_from l.text l.initial.p) (sheet l.initial.out l.at) (sheet l.out l.next) l.mode l.last l.p
 
-abbrev pub decreases-loop-value : goal.decreases-loop-value
-decreases-loop-value l = length l.text - l.p.offset
+abbrev pub decreases-loop-seen : goal.decreases-loop-seen
+decreases-loop-seen l = length l.text - l.p.offset

@@ -6,8 +6,8 @@ use Rattle.listing.specs.Sheets.{sheet}
 use Rattle.literals.specs.SpellingLaws.{decoded_from}
 use Rattle.listing.proofs.texts.spelled.Given as goal
 
-abbrev pub invariant-loop-value : goal.invariant-loop-value
-invariant-loop-value l = Going (characters (decoded_from l.inner l.i)) (characters (decoded_from l.inner 0)) (sheet l.initial.out l.at) (sheet l.out l.next) × (l.i ≤ length l.inner)
+abbrev pub invariant-loop-found : goal.invariant-loop-found
+invariant-loop-found l = Going (characters (decoded_from l.inner l.i)) (characters (decoded_from l.inner 0)) (sheet l.initial.out l.at) (sheet l.out l.next) × (l.i ≤ length l.inner)
 
-abbrev pub decreases-loop-value : goal.decreases-loop-value
-decreases-loop-value l = length l.inner - l.i
+abbrev pub decreases-loop-found : goal.decreases-loop-found
+decreases-loop-found l = length l.inner - l.i

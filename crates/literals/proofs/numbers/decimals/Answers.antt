@@ -1,6 +1,6 @@
 -- `decimals` reads a run of decimal digits. The invariant: what is left, with the sum so far, answers for the whole. The measure is what is
 -- left of the text. Assumes nothing.
-use Rattle.std.proofs.Common.{refl, ◌∙◌, false, rules}
+use Rattle.std.proofs.Common.{◌∙◌, false, rules}
 use Rattle.literals.proofs.NumberRuns.{going_start, digits_some, digits_none, going_decimal, going_past, going_broken, going_end, digit_less, byte_less}
 use Rattle.literals.proofs.numbers.decimals.Goals as goal
 
@@ -8,7 +8,7 @@ pub returns-then-f-ge10 : goal.returns-then-f-ge10
 returns-then-f-ge10 c = search (digits_none, rules)
 
 pub loop-value-init : goal.loop-value-init
-loop-value-init c = search (going_start, refl, rules)
+loop-value-init c = search (going_start, rules)
 
 pub loop-value-smaller-then-d-lt10 : goal.loop-value-smaller-then-d-lt10
 loop-value-smaller-then-d-lt10 c =

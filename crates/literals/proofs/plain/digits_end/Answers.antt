@@ -1,5 +1,5 @@
 -- `digits_end` goes along digits. Assumes nothing.
-use Rattle.std.proofs.Common.{refl}
+use Rattle.std.proofs.Common.{◌≡◌, refl, ◌∙◌, arith, length}
 use Rattle.characters.specs.Names.{is_digit}
 use Rattle.characters.specs.CountLaws.{run_starts, run_on, run_ends, run_out}
 use Rattle.literals.proofs.plain.digits_end.Goals as goal
@@ -14,4 +14,4 @@ pub loop-i-preserved : goal.loop-i-preserved
 loop-i-preserved c = run_on is_digit c.args.text.now _ c.loop-i.invariant c.is_digit.ensures c.if-not-is_digit.false-raw refl c.loop-i-test.true
 
 pub returns : goal.returns
-returns c = run_out is_digit c.args.text.now _ c.loop-i.invariant refl c.loop-i-test.false
+returns c = (let z : length c.args.text.now ≡ c.loop-i.i = omega arith in z) ∙ run_out is_digit c.args.text.now _ c.loop-i.invariant refl c.loop-i-test.false

@@ -1,11 +1,7 @@
 -- `digits_end` goes along digits. Assumes nothing.
-use Rattle.std.proofs.Common.{◌-◌, length}
 use Rattle.characters.specs.Names.{is_digit}
 use Rattle.characters.specs.CountLaws.{In}
 use Rattle.literals.proofs.plain.digits_end.Given as goal
 
 abbrev pub invariant-loop-i : goal.invariant-loop-i
 invariant-loop-i l = In is_digit l.text l.from l.i
-
-abbrev pub decreases-loop-i : goal.decreases-loop-i
-decreases-loop-i l = length l.text - l.i

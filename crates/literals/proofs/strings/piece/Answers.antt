@@ -12,11 +12,11 @@ returns-then-b-eq256 c = search (piece_none, rules)
 pub overflow_add-next : goal.overflow_add-next
 overflow_add-next c = let l = byte_in c.byte-b.ensures (not_ended c.byte-b.ensures c.if-b-eq256.false) in search rules
 
-pub escape-e-requires : goal.escape-e-requires
-escape-e-requires c = let l = byte_in c.byte-b.ensures (not_ended c.byte-b.ensures c.if-b-eq256.false) in search rules
+pub escape-requires : goal.escape-requires
+escape-requires c = let l = byte_in c.byte-b.ensures (not_ended c.byte-b.ensures c.if-b-eq256.false) in search rules
 
 pub after_escape-requires : goal.after_escape-requires
-after_escape-requires c = let l = byte_in c.byte-b.ensures (not_ended c.byte-b.ensures c.if-b-eq256.false) in let z = escape_inside c.args.text.now (c.args.at + 1) (omega arith) in let w = ap reach c.escape-e.ensures in omega arith
+after_escape-requires c = let l = byte_in c.byte-b.ensures (not_ended c.byte-b.ensures c.if-b-eq256.false) in let z = escape_inside c.args.text.now (c.args.at + 1) (omega arith) in let w = ap reach c.escape.ensures in omega arith
 
 pub returns-then-b-eq92 : goal.returns-then-b-eq92
 returns-then-b-eq92 c = search (piece_escape, rules)

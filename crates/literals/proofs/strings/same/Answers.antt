@@ -1,25 +1,22 @@
 -- `same` walks over two texts at once. What is left of them compares as they do; each turn leaves less of the first. Assumes nothing.
 use Rattle.std.proofs.Common.{sym, ◌∙◌, arith}
-use Rattle.literals.specs.SpellingLaws.{both_end, compare_on, compare_start, differ, first_ends, piece_inside, second_ends}
+use Rattle.literals.specs.SpellingLaws.{both_end, compare_on, differ, first_ends, piece_inside, second_ends}
 use Rattle.literals.proofs.strings.same.Goals as goal
 
-pub loop-value-init : goal.loop-value-init
-loop-value-init c = compare_start _ _
+pub returns-in-None-None : goal.returns-in-None-None
+returns-in-None-None c = both_end c.loop-x.invariant (sym c.in-None-None.is-0 ∙ c.piece.ensures) (sym c.in-None-None.is-1 ∙ c.piece-in-loop-x.ensures)
 
-pub returns-in-End-y : goal.returns-in-End-y
-returns-in-End-y c = both_end c.loop-value.invariant c.piece-x.ensures c.piece-y.ensures c.in-End.is c.in-End-y.is
+pub returns-then-x-y : goal.returns-then-x-y
+returns-then-x-y c = differ c.loop-x.invariant c.in-Some-Some.ensures c.in-Some-Some.ensures' c.if-x-y.true
 
-pub returns-in-Char-y : goal.returns-in-Char-y
-returns-in-Char-y c = first_ends c.loop-value.invariant c.piece-x.ensures c.piece-y.ensures c.in-End.is c.in-Char-y.is
+pub loop-x-smaller : goal.loop-x-smaller
+loop-x-smaller c = let z = piece_inside _ _ _ c.in-Some-Some.ensures in omega arith
 
-pub returns-in-End-y-2 : goal.returns-in-End-y-2
-returns-in-End-y-2 c = second_ends c.loop-value.invariant c.piece-x.ensures c.piece-y.ensures c.in-Char.is c.in-End-y-2.is
+pub loop-x-preserved : goal.loop-x-preserved
+loop-x-preserved c = compare_on c.loop-x.invariant c.in-Some-Some.ensures c.in-Some-Some.ensures' c.if-x-y.false
 
-pub returns-then-value-w : goal.returns-then-value-w
-returns-then-value-w c = differ c.loop-value.invariant c.piece-x.ensures c.piece-y.ensures c.in-Char.is c.in-Char-y-2.is c.if-value-w.true
+pub returns-in_default : goal.returns-in_default
+returns-in_default c = first_ends c.loop-x.invariant (sym c.in_default.is-0 ∙ c.piece.ensures) c.in_default.ensures
 
-pub loop-value-smaller : goal.loop-value-smaller
-loop-value-smaller c = let z = piece_inside _ _ _ _ (sym c.in-Char.is ∙ c.piece-x.ensures) in omega arith
-
-pub loop-value-preserved : goal.loop-value-preserved
-loop-value-preserved c = compare_on c.loop-value.invariant c.piece-x.ensures c.piece-y.ensures c.in-Char.is c.in-Char-y-2.is c.if-value-w.false
+pub returns-in_default-2 : goal.returns-in_default-2
+returns-in_default-2 c = second_ends c.loop-x.invariant c.in_default.ensures c.in_default.ensures'

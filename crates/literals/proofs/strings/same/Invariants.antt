@@ -3,8 +3,8 @@ use Rattle.std.proofs.Common.{◌-◌, length}
 use Rattle.literals.specs.SpellingLaws.{Comparing}
 use Rattle.literals.proofs.strings.same.Given as goal
 
-abbrev pub invariant-loop-value : goal.invariant-loop-value
-invariant-loop-value l = Comparing l.a l.b l.i l.j
+abbrev pub invariant-loop-x : goal.invariant-loop-x
+invariant-loop-x l = Comparing l.a l.b l.i l.j
 
-abbrev pub decreases-loop-value : goal.decreases-loop-value
-decreases-loop-value l = length l.a - l.i
+abbrev pub decreases-loop-x : goal.decreases-loop-x
+decreases-loop-x l = length l.a - l.i

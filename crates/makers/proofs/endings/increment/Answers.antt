@@ -1,18 +1,19 @@
 -- `increment` by its rule: its target, the end token, 1, and what `combine` makes. Assumes nothing.
+use Rattle.makers.specs.Laws.Acts.{got_read, got_err, handed}
 use Rattle.makers.proofs.Ending.{no_target, no_end, one_full, one_room, incremented}
 use Rattle.makers.proofs.endings.increment.Goals as goal
 
-pub returns-then-not-is_target : goal.returns-then-not-is_target
-returns-then-not-is_target c = no_target c.requires c.args.end c.args.from c.args.op c.kind_of-kind.ensures c.is_target.ensures c.if-not-is_target.true-raw c.position_of-position.ensures
+pub returns-then-not-is_target-clause-acts : goal.returns-then-not-is_target-clause-acts
+returns-then-not-is_target-clause-acts c = no_target c.requires c.args.end c.args.from c.args.op c.kind_of-kind.ensures c.is_target.ensures c.if-not-is_target.true-raw c.position_of-position.ensures
 
-pub returns-in_default : goal.returns-in_default
-returns-in_default c = one_full c.requires c.args.end c.args.from c.args.op c.kind_of-kind.ensures c.is_target.ensures c.if-not-is_target.false-raw c.need-last.ensures c.in-Taken.is c.make_like-one.ensures c.in_default.is
+pub returns-in_err-last-clause-acts : goal.returns-in_err-last-clause-acts
+returns-in_err-last-clause-acts c = rw (handed _ c.from_residual.ensures.1) (no_end c.requires c.args.end c.args.from c.args.op c.kind_of-kind.ensures c.is_target.ensures c.if-not-is_target.false-raw c.need.ensures c.in_err-last.was)
+
+pub returns-in_err-q-clause-acts : goal.returns-in_err-q-clause-acts
+returns-in_err-q-clause-acts c = rw (handed _ c.from_residual-in_err-q.ensures.1) (one_full c.requires c.args.end c.args.from c.args.op c.kind_of-kind.ensures c.is_target.ensures c.if-not-is_target.false-raw c.need.ensures c.in_ok-last.was c.make_like.ensures.makes (got_err c.in_err-q.was))
 
 pub combine-requires : goal.combine-requires
-combine-requires c = one_room c.requires c.args.end c.args.from c.args.op c.kind_of-kind.ensures c.is_target.ensures c.if-not-is_target.false-raw c.need-last.ensures c.in-Taken.is c.make_like-one.ensures c.in-Read.is
+combine-requires c = one_room c.requires c.args.end c.args.from c.args.op c.kind_of-kind.ensures c.is_target.ensures c.if-not-is_target.false-raw c.need.ensures c.in_ok-last.was c.make_like.ensures.makes (got_read c.in_ok-q.was)
 
-pub returns-in-Failed : goal.returns-in-Failed
-returns-in-Failed c = no_end c.requires c.args.end c.args.from c.args.op c.kind_of-kind.ensures c.is_target.ensures c.if-not-is_target.false-raw c.need-last.ensures c.in-Failed.is
-
-pub returns-in-Read : goal.returns-in-Read
-returns-in-Read c = incremented c.requires c.args.end c.args.from c.args.op c.kind_of-kind.ensures c.is_target.ensures c.if-not-is_target.false-raw c.need-last.ensures c.in-Taken.is c.make_like-one.ensures c.in-Read.is c.combine.ensures
+pub returns-clause-acts : goal.returns-clause-acts
+returns-clause-acts c = incremented c.requires c.args.end c.args.from c.args.op c.kind_of-kind.ensures c.is_target.ensures c.if-not-is_target.false-raw c.need.ensures c.in_ok-last.was c.make_like.ensures.makes (got_read c.in_ok-q.was) c.combine.ensures.acts

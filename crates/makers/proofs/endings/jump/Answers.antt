@@ -1,9 +1,10 @@
 -- `jump` takes the `;` and makes one record. Assumes nothing.
+use Rattle.makers.specs.Laws.Acts.{handed}
 use Rattle.makers.proofs.Ending.{jump_fails, jump_made}
 use Rattle.makers.proofs.endings.jump.Goals as goal
 
-pub returns-in-Failed : goal.returns-in-Failed
-returns-in-Failed c = jump_fails c.requires c.args.kind c.args.from c.need-end.ensures c.in-Failed.is
+pub returns-in_err-end-clause-acts : goal.returns-in_err-end-clause-acts
+returns-in_err-end-clause-acts c = rw (handed _ c.from_residual.ensures.1) (jump_fails c.requires c.args.kind c.args.from c.need.ensures c.in_err-end.was)
 
-pub returns-in-Taken : goal.returns-in-Taken
-returns-in-Taken c = jump_made c.requires c.args.kind c.args.from c.need-end.ensures c.in-Taken.is c.row-made.ensures c.make.ensures
+pub returns-clause-acts : goal.returns-clause-acts
+returns-clause-acts c = jump_made c.requires c.args.kind c.args.from c.need.ensures c.in_ok-end.was c.row-made.ensures c.make.ensures.makes

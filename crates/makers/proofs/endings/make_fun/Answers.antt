@@ -2,5 +2,5 @@
 use Rattle.makers.proofs.Ending.{fun_made}
 use Rattle.makers.proofs.endings.make_fun.Goals as goal
 
-pub returns : goal.returns
-returns c = fun_made c.next-id.ensures c.numbered-u.ensures c.fun_row-made.ensures c.make.ensures
+pub returns-clause-acts : goal.returns-clause-acts
+returns-clause-acts c = fun_made c.next-id.ensures c.numbered-book.ensures c.fun_row-made.ensures c.make.ensures.makes

@@ -1,20 +1,11 @@
 -- `name_at` looks where the names of a list stand. Assumes nothing.
-use Rattle.std.proofs.Common.{ap, ◌∙◌, arith, [], ◌∷◌, ℕ}
+use Rattle.std.proofs.Common.{ap, ◌∙◌, [], ◌∷◌, ℕ}
 use Rattle.records.specs.Words.{span_of}
 use Rattle.records.specs.Nodes.{held_at}
 use Rattle.makers.specs.declared.names.Naming.TheVariants.{Keys, Parameters, Methods, Functions, Classes}
 use Rattle.makers.specs.Names.{function_of, class_of}
-use Rattle.makers.specs.Laws.NamesWalk.{at_as, refers_as, refers_stored}
+use Rattle.makers.specs.Laws.NamesWalk.{at_as}
 use Rattle.makers.proofs.names.name_at.Goals as goal
-
-pub held_of-word-requires-in-Methods : goal.held_of-word-requires-in-Methods
-held_of-word-requires-in-Methods c = (refers_stored _ _ c.requires c.held_of-function.ensures (refers_as _ _ Methods c.in-Methods.is c.requires), omega arith)
-
-pub function_of-requires : goal.function_of-requires
-function_of-requires c = refers_stored _ _ c.requires c.held_of-statement.ensures (refers_as _ _ Functions c.in-Functions.is c.requires)
-
-pub class_of-requires : goal.class_of-requires
-class_of-requires c = refers_stored _ _ c.requires c.held_of-statement-in-Classes.ensures (refers_as _ _ Classes c.in-Classes.is c.requires)
 
 pub returns-in-Keys : goal.returns-in-Keys
 returns-in-Keys c = at_as _ _ Keys c.in-Keys.is (c.named.ensures ∙ ap (λ (w : ℕ). span_of w ∷ []) c.held_of-word.ensures)

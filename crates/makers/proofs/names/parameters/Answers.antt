@@ -1,12 +1,14 @@
 -- `parameters` counts what `params` read. Assumes nothing.
-use Rattle.makers.specs.Laws.NamesRead.{params_refused, params_over, params_read}
+use Rattle.std.proofs.Common.{refl}
+use Rattle.makers.specs.Laws.Acts.{handed}
+use Rattle.makers.specs.Laws.NamesRead.{items_ok, items_err, params_refused, params_over, params_read}
 use Rattle.makers.proofs.names.parameters.Goals as goal
 
-pub returns-then-count-ge256 : goal.returns-then-count-ge256
-returns-then-count-ge256 c = params_over c.args.end c.params-items.ensures c.in-Read.is c.if-count-ge256.true c.halted-then-count-ge256.ensures
+pub returns-in_err-items-clause-acts : goal.returns-in_err-items-clause-acts
+returns-in_err-items-clause-acts c = rw (handed _ c.from_residual.ensures.1) (params_refused c.args.end c.params.ensures.acts (items_err c.in_err-items.was) refl)
 
-pub returns-in-Refused : goal.returns-in-Refused
-returns-in-Refused c = params_refused c.args.end c.params-items.ensures c.in-Refused.is c.halted.ensures
+pub returns-then-items-ge256-clause-acts : goal.returns-then-items-ge256-clause-acts
+returns-then-items-ge256-clause-acts c = params_over c.args.end c.params.ensures.acts (items_ok c.in_ok-items.was) c.if-items-ge256.true refl
 
-pub returns-else-count-ge256 : goal.returns-else-count-ge256
-returns-else-count-ge256 c = params_read c.args.end c.params-items.ensures c.in-Read.is c.if-count-ge256.false c.ended.ensures
+pub returns-clause-acts : goal.returns-clause-acts
+returns-clause-acts c = params_read c.args.end c.params.ensures.acts (items_ok c.in_ok-items.was) c.if-items-ge256.false refl

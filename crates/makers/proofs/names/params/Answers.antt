@@ -1,51 +1,34 @@
 -- `params`: each turn reads one parameter, and what is left of the text falls. Assumes nothing.
-use Rattle.std.proofs.Common.{refl, ◌∙◌, [], arith}
+use Rattle.std.proofs.Common.{refl, [], arith}
+use Rattle.makers.specs.Laws.Acts.{got_read, got_err, ok_as, handed}
 use Rattle.makers.specs.Laws.Turns.{turn_first, turn_less}
 use Rattle.makers.specs.Laws.Names.{listed_none, listed_well}
-use Rattle.makers.specs.Laws.NamesRead.{gather_halts, gather_ends, gather_here, gather_refused, gather_next, follow_halts, follow_ends, gather_further, gather_on}
+use Rattle.makers.specs.Laws.NamesRead.{gather_halts, gather_ends, gather_here, gather_refused, follow_halts, follow_ends, gather_further, gather_on}
 use Rattle.makers.proofs.names.params.Goals as goal
 
-pub loop-refusal-init : goal.loop-refusal-init
-loop-refusal-init c = record { same = refl; ready = c.requires; turn = turn_first c.requires.stands; few = omega arith; names = []; listed = listed_none; rest = λ left r B d. d }
+pub loop-close-init : goal.loop-close-init
+loop-close-init c = record { lent = refl; turns = record { same = refl; ready = c.requires; turn = turn_first c.requires.stands; few = omega arith; names = []; listed = listed_none; rest = λ left r B d. d } }
 
-pub close_of-close-requires : goal.close_of-close-requires
-close_of-close-requires c = c.loop-refusal.invariant.ready.stands
+pub returns-in_err-close-clause-acts : goal.returns-in_err-close-clause-acts
+returns-in_err-close-clause-acts c = rw (handed _ c.from_residual.ensures.1) (gather_halts c.loop-close.invariant.turns c.close_of.ensures c.in_err-close.was refl)
 
-pub returns-in-Halted : goal.returns-in-Halted
-returns-in-Halted c = gather_halts c.loop-refusal.invariant c.close_of-close.ensures c.in-Halted.is c.halted.ensures
+pub returns-in-Found-clause-acts : goal.returns-in-Found-clause-acts
+returns-in-Found-clause-acts c = gather_ends c.loop-close.invariant.turns c.close_of.ensures (ok_as c.in_ok-close.was c.in-Found.is) refl
 
-pub returns-in-Found : goal.returns-in-Found
-returns-in-Found c = gather_ends c.loop-refusal.invariant c.close_of-close.ensures c.in-Found.is c.ended.ensures
+pub param-requires : goal.param-requires
+param-requires c = (gather_here c.loop-close.invariant.turns c.close_of.ensures (ok_as c.in_ok-close.was c.in-Missing.is), listed_well c.loop-close.invariant.turns.listed)
 
-pub param-made-requires : goal.param-made-requires
-param-made-requires c = (gather_here c.loop-refusal.invariant c.close_of-close.ensures c.in-Missing.is, listed_well c.loop-refusal.invariant.listed)
+pub returns-in_err-after-clause-acts : goal.returns-in_err-after-clause-acts
+returns-in_err-after-clause-acts c = rw (handed _ c.from_residual-in_err-after.ensures.1) (gather_refused c.loop-close.invariant.turns c.close_of.ensures (ok_as c.in_ok-close.was c.in-Missing.is) c.param.ensures.acts (got_err c.in_err-after.was) refl)
 
-pub shape_of-pool-in-Refused : goal.shape_of-pool-in-Refused
-shape_of-pool-in-Refused c = c.param-made.auto.pool ∙ c.loop-refusal.invariant.same
+pub returns-in_err-follow-clause-acts : goal.returns-in_err-follow-clause-acts
+returns-in_err-follow-clause-acts c = rw (handed _ c.from_residual-in_err-follow.ensures.1) (follow_halts c.loop-close.invariant.turns c.close_of.ensures (ok_as c.in_ok-close.was c.in-Missing.is) c.param.ensures.acts (got_read c.in_ok-after.was) c.follow_of.ensures c.in_err-follow.was refl)
 
-pub returns-in-Refused : goal.returns-in-Refused
-returns-in-Refused c = gather_refused c.loop-refusal.invariant c.close_of-close.ensures c.in-Missing.is c.param-made.ensures c.in-Refused.is c.halted-in-Refused.ensures
+pub returns-in-Found-follow-clause-acts : goal.returns-in-Found-follow-clause-acts
+returns-in-Found-follow-clause-acts c = follow_ends c.loop-close.invariant.turns c.close_of.ensures (ok_as c.in_ok-close.was c.in-Missing.is) c.param.ensures.acts (got_read c.in_ok-after.was) c.follow_of.ensures (ok_as c.in_ok-follow.was c.in-Found-follow.is) refl
 
-pub overflow_add-count : goal.overflow_add-count
-overflow_add-count c = let f = c.loop-refusal.invariant.few in let i = c.loop-refusal.invariant.ready.stands.inside in let s = c.loop-refusal.invariant.ready.short in omega arith
+pub loop-close-smaller : goal.loop-close-smaller
+loop-close-smaller c = turn_less (gather_further c.loop-close.invariant.turns c.close_of.ensures (ok_as c.in_ok-close.was c.in-Missing.is) c.param.ensures.acts (got_read c.in_ok-after.was) c.follow_of.ensures (ok_as c.in_ok-follow.was c.in-Missing-follow.is))
 
-pub follow_of-follow-requires : goal.follow_of-follow-requires
-follow_of-follow-requires c = (gather_next c.loop-refusal.invariant c.close_of-close.ensures c.in-Missing.is c.param-made.ensures c.in-Read.is).stands
-
-pub shape_of-pool-in-Halted-follow : goal.shape_of-pool-in-Halted-follow
-shape_of-pool-in-Halted-follow c = c.param-made.auto.pool ∙ c.loop-refusal.invariant.same
-
-pub returns-in-Halted-follow : goal.returns-in-Halted-follow
-returns-in-Halted-follow c = follow_halts c.loop-refusal.invariant c.close_of-close.ensures c.in-Missing.is c.param-made.ensures c.in-Read.is c.follow_of-follow.ensures c.in-Halted-follow.is c.halted-in-Halted-follow.ensures
-
-pub shape_of-pool-in-Found-follow : goal.shape_of-pool-in-Found-follow
-shape_of-pool-in-Found-follow c = c.param-made.auto.pool ∙ c.loop-refusal.invariant.same
-
-pub returns-in-Found-follow : goal.returns-in-Found-follow
-returns-in-Found-follow c = follow_ends c.loop-refusal.invariant c.close_of-close.ensures c.in-Missing.is c.param-made.ensures c.in-Read.is c.follow_of-follow.ensures c.in-Found-follow.is c.ended-in-Found-follow.ensures
-
-pub loop-refusal-smaller : goal.loop-refusal-smaller
-loop-refusal-smaller c = turn_less (gather_further c.loop-refusal.invariant c.close_of-close.ensures c.in-Missing.is c.param-made.ensures c.in-Read.is c.follow_of-follow.ensures c.in-Missing-follow.is)
-
-pub loop-refusal-preserved : goal.loop-refusal-preserved
-loop-refusal-preserved c = gather_on c.loop-refusal.invariant c.close_of-close.ensures c.in-Missing.is c.param-made.ensures c.in-Read.is c.follow_of-follow.ensures c.in-Missing-follow.is c.param-made.auto.pool
+pub loop-close-preserved : goal.loop-close-preserved
+loop-close-preserved c = record { lent = cc; turns = gather_on c.loop-close.invariant.turns c.close_of.ensures (ok_as c.in_ok-close.was c.in-Missing.is) c.param.ensures.acts (got_read c.in_ok-after.was) c.follow_of.ensures (ok_as c.in_ok-follow.was c.in-Missing-follow.is) }

@@ -1,15 +1,9 @@
 -- `same_bytes` compares byte by byte. Assumes nothing.
-use Rattle.makers.specs.Laws.NamesWalk.{match_starts, match_none, match_inside, match_on, match_off, match_all}
+use Rattle.makers.specs.Laws.NamesWalk.{match_none, match_on, match_off, match_all}
 use Rattle.makers.proofs.names.same_bytes.Goals as goal
 
 pub returns-then-b-n : goal.returns-then-b-n
 returns-then-b-n c = match_none _ _ c.if-b-n.true
-
-pub loop-i-init : goal.loop-i-init
-loop-i-init c = match_starts c.if-b-n.false
-
-pub bounds-b-i : goal.bounds-b-i
-bounds-b-i c = match_inside c.loop-i.invariant c.loop-i-test.true
 
 pub returns-then-a-i : goal.returns-then-a-i
 returns-then-a-i c = match_off c.loop-i.invariant c.loop-i-test.true c.if-a-i.true

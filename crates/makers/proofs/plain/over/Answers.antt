@@ -1,20 +1,11 @@
 -- `over` looks at one byte, and past a `=` at a second. Assumes nothing.
 use Rattle.std.proofs.Common.{arith}
 use borrow.Author.Tests.{not-false}
-use Rattle.makers.specs.Laws.PlainEnds.{over_not, over_shut, over_colon, over_assign}
+use Rattle.makers.specs.Laws.PlainEnds.{over_shut, over_colon, over_assign}
 use Rattle.makers.proofs.plain.over.Goals as goal
-
-pub returns-then-not-assigning : goal.returns-then-not-assigning
-returns-then-not-assigning c = over_not
 
 pub returns-else-not-assigning : goal.returns-else-not-assigning
 returns-else-not-assigning c = over_assign c.byte-b.ensures c.in-61.is (not-false _ c.if-not-assigning.false-raw) c.byte-c.ensures
-
-pub returns-in_default : goal.returns-in_default
-returns-in_default c = over_not
-
-pub returns-in_default-2 : goal.returns-in_default-2
-returns-in_default-2 c = over_not
 
 pub returns-in-41 : goal.returns-in-41
 returns-in-41 c = over_shut c.byte-b.ensures c.in-41.is

@@ -1,10 +1,7 @@
 -- `plain_fraction` goes along a plain fraction to its end. Assumes nothing.
 use Rattle.std.proofs.Common.{refl, arith}
-use Rattle.makers.specs.Laws.PlainMade.{plain_none, float_spans, spans_short, float_made}
+use Rattle.makers.specs.Laws.PlainMade.{float_spans, spans_short, float_made}
 use Rattle.makers.proofs.plain.plain_fraction.Goals as goal
-
-pub returns-then-to-eq0 : goal.returns-then-to-eq0
-returns-then-to-eq0 c = plain_none
 
 pub pack-span-requires : goal.pack-span-requires
 pack-span-requires c = spans_short c.requires.0 c.requires.1 (float_spans c.requires.1 c.float_end-to.ensures c.if-to-eq0.false)

@@ -1,6 +1,6 @@
 -- `plain_name` reads a name and goes by its word. Assumes nothing.
 use Rattle.std.proofs.Common.{refl, arith}
-use Rattle.makers.specs.Laws.PlainMade.{plain_none, name_ends, spans_short, name_made, word_made}
+use Rattle.makers.specs.Laws.PlainMade.{name_ends, spans_short, name_made, word_made}
 use Rattle.records.specs.declared.kind.Kind.TheVariants as kinds
 use Rattle.makers.proofs.plain.plain_name.Goals as goal
 
@@ -21,6 +21,3 @@ returns-in-2 c = word_made c.requires.1 c.requires.3 c.name_end-to.ensures c.wor
 
 pub returns-in-3 : goal.returns-in-3
 returns-in-3 c = word_made c.requires.1 c.requires.3 c.name_end-to.ensures c.word-k.ensures c.lay-in-3.ensures refl 3 kinds.Nil c.in-3.is refl c.row-made_row-in-3.ensures
-
-pub returns-in_default : goal.returns-in_default
-returns-in_default c = plain_none

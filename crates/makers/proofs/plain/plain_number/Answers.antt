@@ -4,9 +4,6 @@ use Rattle.literals.specs.PlainLaws.{is_int_lem, int_few}
 use Rattle.makers.specs.Laws.PlainMade.{number_ends, number_made}
 use Rattle.makers.proofs.plain.plain_number.Goals as goal
 
-pub returns-then-to-eq0 : goal.returns-then-to-eq0
-returns-then-to-eq0 c = c.plain_fraction.ensures
-
 pub plain_int-value-requires : goal.plain_int-value-requires
 plain_int-value-requires c = int_few (is_int_lem c.args.text.now c.args.at.offset c.int_end-to.ensures c.if-to-eq0.false)
 

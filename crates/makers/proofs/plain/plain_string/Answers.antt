@@ -1,10 +1,7 @@
 -- `plain_string` goes along a plain string to its end. Assumes nothing.
 use Rattle.std.proofs.Common.{refl, arith}
-use Rattle.makers.specs.Laws.PlainMade.{plain_none, string_ends, spans_short, string_made}
+use Rattle.makers.specs.Laws.PlainMade.{string_ends, spans_short, string_made}
 use Rattle.makers.proofs.plain.plain_string.Goals as goal
-
-pub returns-then-to-eq0 : goal.returns-then-to-eq0
-returns-then-to-eq0 c = plain_none
 
 pub pack-span-requires : goal.pack-span-requires
 pack-span-requires c = spans_short c.requires.0 c.requires.1 (string_ends c.requires.1 c.requires.3 c.plain_string_end-to.ensures c.if-to-eq0.false)

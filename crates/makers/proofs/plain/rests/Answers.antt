@@ -1,6 +1,6 @@
 -- `rests` looks at one byte, and at a second where the first could double. Assumes nothing.
 use Rattle.std.proofs.Common.{◌<◌, inl, inr, arith}
-use Rattle.makers.specs.Laws.PlainEnds.{rests_not, rests_sign, rests_other}
+use Rattle.makers.specs.Laws.PlainEnds.{rests_sign, rests_other}
 use Rattle.makers.proofs.plain.rests.Goals as goal
 
 pub returns-in-43 : goal.returns-in-43
@@ -11,12 +11,3 @@ returns-in_default c = let l : c.byte-b.result < 45 = omega arith in rests_other
 
 pub returns-in_default-2 : goal.returns-in_default-2
 returns-in_default-2 c = rests_other c.byte-b.ensures (omega arith) (inr (omega arith)) c.in_default.in_default-own.rest.0.1 c.in_default.in_default-own.rest.1
-
-pub returns-in-0-to-32 : goal.returns-in-0-to-32
-returns-in-0-to-32 c = rests_not
-
-pub returns-in-0-to-32-2 : goal.returns-in-0-to-32-2
-returns-in-0-to-32-2 c = rests_not
-
-pub returns-in-0-to-32-3 : goal.returns-in-0-to-32-3
-returns-in-0-to-32-3 c = rests_not

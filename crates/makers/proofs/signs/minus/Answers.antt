@@ -6,14 +6,14 @@ use Rattle.makers.proofs.Ending.{kind_is, kind_not, other_kind, literal_value, l
 use Rattle.records.specs.declared.kind.Kind.TheVariants as kinds
 use Rattle.makers.proofs.signs.minus.Goals as goal
 
-pub returns-in-4 : goal.returns-in-4
+pub returns-in-4-clause-acts : goal.returns-in-4-clause-acts
 unfolding minus_p
-returns-in-4 c = acts_yes (kind_is c.kind_of-kind.ensures c.in-4.is) (leaf_made kinds.Int refl c.leaf_row-made.ensures c.position_of-position.ensures (c.minus_int-value.ensures ∙ ap (λ (x : ℕ). minus_int x) (literal_value _ _ c.kind_of-kind.ensures c.in-4.is refl c.value_of.ensures)) c.make.ensures)
+returns-in-4-clause-acts c = acts_yes (kind_is c.kind_of-kind.ensures c.in-4.is) (leaf_made kinds.Int refl c.leaf_row-made.ensures c.position_of-position.ensures (c.minus_int-value.ensures ∙ ap (λ (x : ℕ). minus_int x) (literal_value _ _ c.kind_of-kind.ensures c.in-4.is refl c.value_of.ensures)) c.make.ensures.makes)
 
-pub returns-in-5 : goal.returns-in-5
+pub returns-in-5-clause-acts : goal.returns-in-5-clause-acts
 unfolding minus_p
-returns-in-5 c = acts_no (other_kind 4 c.kind_of-kind.ensures c.in-5.is refl) (acts_yes (kind_is c.kind_of-kind.ensures c.in-5.is) (leaf_made kinds.Float refl c.leaf_row-made-in-5.ensures c.position_of-position-in-5.ensures (c.minus_float-value.ensures ∙ ap (λ (x : ℕ). minus_float x) (literal_value _ _ c.kind_of-kind.ensures c.in-5.is refl c.value_of-in-5.ensures)) c.make-in-5.ensures))
+returns-in-5-clause-acts c = acts_no (other_kind 4 c.kind_of-kind.ensures c.in-5.is refl) (acts_yes (kind_is c.kind_of-kind.ensures c.in-5.is) (leaf_made kinds.Float refl c.leaf_row-made-in-5.ensures c.position_of-position-in-5.ensures (c.minus_float-value.ensures ∙ ap (λ (x : ℕ). minus_float x) (literal_value _ _ c.kind_of-kind.ensures c.in-5.is refl c.value_of-in-5.ensures)) c.make-in-5.ensures.makes))
 
-pub returns-in_default : goal.returns-in_default
+pub returns-in_default-clause-acts : goal.returns-in_default-clause-acts
 unfolding minus_p
-returns-in_default c = acts_no (kind_not c.kind_of-kind.ensures c.in_default.in_default-own.rest.0.1) (acts_no (kind_not c.kind_of-kind.ensures c.in_default.in_default-own.rest.1) (acts_make refl c.make_like.ensures))
+returns-in_default-clause-acts c = acts_no (kind_not c.kind_of-kind.ensures c.in_default.in_default-own.rest.0.1) (acts_no (kind_not c.kind_of-kind.ensures c.in_default.in_default-own.rest.1) (acts_make refl c.make_like.ensures.makes))

@@ -2,8 +2,8 @@
 use Rattle.reading.proofs.Laws.Does.{compares_one, compares_none}
 use Rattle.records.proofs.comparisons.count.Goals as goal
 
-pub returns-then-t-limit : goal.returns-then-t-limit
-returns-then-t-limit c = rw c.plain-node.ensures (compares_one c.if-t-limit.true)
+pub returns-then-tally-limit : goal.returns-then-tally-limit
+returns-then-tally-limit c = rw c.plain.ensures (compares_one c.if-tally-limit.true)
 
 pub returns : goal.returns
-returns c = compares_none c.if-t-limit.false
+returns c = compares_none c.if-tally-limit.false

@@ -2,8 +2,8 @@
 use Rattle.unit.specs.Laws.Classes.{bare_other, bare_is}
 use Rattle.unit.proofs.classes.is_bare.Goals as goal
 
-pub returns-then-not-init : goal.returns-then-not-init
-returns-then-not-init c = bare_other c.is_init-init.ensures c.if-not-init.true-raw _
+pub returns-then-is_init : goal.returns-then-is_init
+returns-then-is_init c = bare_is c.is_init.ensures c.if-is_init.true c.held_of.ensures
 
-pub returns : goal.returns
-returns c = bare_is c.is_init-init.ensures c.if-not-init.false-raw c.held_of-params.ensures
+pub returns-else-is_init : goal.returns-else-is_init
+returns-else-is_init c = bare_other c.is_init.ensures c.if-is_init.false _

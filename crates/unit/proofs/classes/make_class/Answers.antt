@@ -2,5 +2,5 @@
 use Rattle.unit.specs.Laws.Classes.{class_made}
 use Rattle.unit.proofs.classes.make_class.Goals as goal
 
-pub returns : goal.returns
-returns c = class_made c.next-id.ensures c.numbered-u.ensures c.class_row-made.ensures c.make.ensures
+pub returns-clause-acts : goal.returns-clause-acts
+returns-clause-acts c = class_made c.next-id.ensures c.numbered-book.ensures c.class_row-class.ensures c.make.ensures.makes

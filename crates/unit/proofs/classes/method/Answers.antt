@@ -1,34 +1,36 @@
 -- `method` by its rule: a name that is new, its function and its item. Assumes nothing.
 use Rattle.std.proofs.Common.{arith}
+use Rattle.characters.specs.Answers.{handed}
+use Rattle.unit.specs.Laws.Exits.{got_ok, got_err, still_refused}
 use Rattle.unit.specs.Laws.Classes.{name_spans, name_packs, method_unnamed, method_again, method_begun, method_refused, method_stored, method_lent, method_init, method_item}
 use Rattle.unit.proofs.classes.method.Goals as goal
 
-pub returns-in_default : goal.returns-in_default
-returns-in_default c = method_unnamed c.requires.0 c.requires.1 c.name-read.ensures c.in_default.is c.refused_by.ensures
+pub returns-in_err-token-clause-reads : goal.returns-in_err-token-clause-reads
+returns-in_err-token-clause-reads c = rw (handed c.from_residual.ensures) (method_unnamed c.requires.0 c.requires.1 c.name.ensures c.in_err-token.was)
 
-pub new_name-new-requires : goal.new_name-new-requires
-new_name-new-requires c = (let z = c.requires.0.short in omega arith, c.requires.1.chained)
+pub compare_name-requires : goal.compare_name-requires
+compare_name-requires c = (let z = c.requires.0.short in omega arith, c.requires.1.chained)
 
-pub returns-in_default-new : goal.returns-in_default-new
-returns-in_default-new c = method_again c.requires.0 c.requires.1 c.name-read.ensures c.in-Taken.is c.new_name-new.ensures c.in_default-new.is
+pub returns-in_err-compare_name-clause-reads : goal.returns-in_err-compare_name-clause-reads
+returns-in_err-compare_name-clause-reads c = rw (still_refused c.from_residual-in_err-compare_name.ensures c.in_err-compare_name.was) (method_again c.requires.0 c.requires.1 c.name.ensures c.in_ok-token.was c.compare_name.ensures.compared c.compare_name.ensures.same (got_err c.in_err-compare_name.was))
 
 pub name_word-word-requires : goal.name_word-word-requires
-name_word-word-requires c = name_packs c.requires.0 c.name-read.ensures c.in-Taken.is
+name_word-word-requires c = name_packs c.requires.0 c.name.ensures c.in_ok-token.was
 
-pub func-made-requires : goal.func-made-requires
-func-made-requires c = method_begun c.requires.0 c.requires.1 c.name-read.ensures c.in-Taken.is c.new_name-new.ensures c.in-Read.is
+pub func-requires : goal.func-requires
+func-requires c = method_begun c.requires.0 c.requires.1 c.name.ensures c.in_ok-token.was c.compare_name.ensures.compared c.compare_name.ensures.same (got_ok c.in_ok-compare_name.was)
 
-pub returns-in_default-made : goal.returns-in_default-made
-returns-in_default-made c = method_refused c.requires.0 c.requires.1 c.name-read.ensures c.in-Taken.is c.new_name-new.ensures c.in-Read.is c.name_word-word.ensures c.func-made.ensures c.in_default-made.is
+pub returns-in_err-q-clause-reads : goal.returns-in_err-q-clause-reads
+returns-in_err-q-clause-reads c = rw (still_refused c.from_residual-in_err-q.ensures c.in_err-q.was) (method_refused c.requires.0 c.requires.1 c.name.ensures c.in_ok-token.was c.compare_name.ensures.compared c.compare_name.ensures.same (got_ok c.in_ok-compare_name.was) c.name_word-word.ensures c.func.ensures.reads (got_err c.in_err-q.was))
 
-pub is_bare-bare-requires : goal.is_bare-bare-requires
-is_bare-bare-requires c = ((name_spans c.requires.0 c.name-read.ensures c.in-Taken.is).0, (name_spans c.requires.0 c.name-read.ensures c.in-Taken.is).1, method_stored c.requires.0 c.requires.1 c.name-read.ensures c.in-Taken.is c.new_name-new.ensures c.in-Read.is c.name_word-word.ensures c.func-made.ensures c.in-Read-made.is)
+pub is_bare-requires : goal.is_bare-requires
+is_bare-requires c = ((name_spans c.requires.0 c.name.ensures c.in_ok-token.was).0, (name_spans c.requires.0 c.name.ensures c.in_ok-token.was).1, method_stored c.requires.0 c.requires.1 c.name.ensures c.in_ok-token.was c.compare_name.ensures.compared c.compare_name.ensures.same (got_ok c.in_ok-compare_name.was) c.name_word-word.ensures c.func.ensures.reads (got_ok c.in_ok-q.was))
 
-pub returns-then-bare : goal.returns-then-bare
-returns-then-bare c = method_init c.requires.0 c.requires.1 c.name-read.ensures c.in-Taken.is c.new_name-new.ensures c.in-Read.is c.name_word-word.ensures c.func-made.ensures c.in-Read-made.is c.is_bare-bare.ensures c.if-bare.true
+pub returns-then-is_bare-clause-reads : goal.returns-then-is_bare-clause-reads
+returns-then-is_bare-clause-reads c = method_init c.requires.0 c.requires.1 c.name.ensures c.in_ok-token.was c.compare_name.ensures.compared c.compare_name.ensures.same (got_ok c.in_ok-compare_name.was) c.name_word-word.ensures c.func.ensures.reads (got_ok c.in_ok-q.was) c.is_bare.ensures c.if-is_bare.true
 
 pub make-requires : goal.make-requires
-make-requires c = method_lent c.requires.0 c.requires.1 c.name-read.ensures c.in-Taken.is c.new_name-new.ensures c.in-Read.is c.name_word-word.ensures c.func-made.ensures c.in-Read-made.is
+make-requires c = method_lent c.requires.0 c.requires.1 c.name.ensures c.in_ok-token.was c.compare_name.ensures.compared c.compare_name.ensures.same (got_ok c.in_ok-compare_name.was) c.name_word-word.ensures c.func.ensures.reads (got_ok c.in_ok-q.was)
 
-pub returns : goal.returns
-returns c = method_item c.requires.0 c.requires.1 c.name-read.ensures c.in-Taken.is c.new_name-new.ensures c.in-Read.is c.name_word-word.ensures c.func-made.ensures c.in-Read-made.is c.is_bare-bare.ensures c.if-bare.false c.item_row-item.ensures c.make.ensures
+pub returns-clause-reads : goal.returns-clause-reads
+returns-clause-reads c = method_item c.requires.0 c.requires.1 c.name.ensures c.in_ok-token.was c.compare_name.ensures.compared c.compare_name.ensures.same (got_ok c.in_ok-compare_name.was) c.name_word-word.ensures c.func.ensures.reads (got_ok c.in_ok-q.was) c.is_bare.ensures c.if-is_bare.false c.item_row-item.ensures c.make.ensures.makes

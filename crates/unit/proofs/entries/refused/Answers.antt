@@ -3,4 +3,4 @@ use Rattle.unit.specs.Laws.Entering.{told_before}
 use Rattle.unit.proofs.entries.refused.Goals as goal
 
 pub returns : goal.returns
-returns c = told_before c.args.refusal c.args.at c.start-tally.ensures c.told.ensures
+returns c = told_before c.args.refusal c.args.at c.start.ensures c.told.ensures

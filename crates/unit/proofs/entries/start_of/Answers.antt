@@ -10,5 +10,5 @@ file_start-requires c = start_stands _ false c.requires
 pub returns-then-file : goal.returns-then-file
 returns-then-file c = starts_file _ c.if-file.true c.file_start.ensures
 
-pub returns : goal.returns
-returns c = starts_string _ c.if-file.false c.start.ensures
+pub returns-else-file : goal.returns-else-file
+returns-else-file c = starts_string _ c.if-file.false c.start.ensures

@@ -1,9 +1,10 @@
 -- `told` by cases. Assumes nothing.
+use Rattle.unit.specs.Laws.Exits.{got_ok, got_err}
 use Rattle.unit.specs.Laws.Entering.{told_read, told_refused}
 use Rattle.unit.proofs.entries.told.Goals as goal
 
-pub returns-in-Read : goal.returns-in-Read
-returns-in-Read c = told_read c.in-Read.is
+pub returns-in-Ok : goal.returns-in-Ok
+returns-in-Ok c = told_read (got_ok c.in-Ok.is)
 
-pub returns-in-Refused : goal.returns-in-Refused
-returns-in-Refused c = told_refused c.in-Refused.is c.number-number.ensures
+pub returns-in-Err : goal.returns-in-Err
+returns-in-Err c = told_refused (got_err c.in-Err.is) c.number-number.ensures

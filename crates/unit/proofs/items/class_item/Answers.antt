@@ -1,22 +1,23 @@
 -- `class_item`: a class, its declaration and its item. Assumes nothing.
 use Rattle.makers.specs.Laws.Acts.{room_of}
+use Rattle.unit.specs.Laws.Exits.{got_ok, got_err, still_refused}
 use Rattle.unit.specs.Laws.Items.{class_item_refused, class_lent, class_full, class_next, class_itemed}
 use Rattle.unit.proofs.items.class_item.Goals as goal
 
-pub class-read-requires : goal.class-read-requires
-class-read-requires c = (c.requires.0, c.requires.1.classes)
+pub class-requires : goal.class-requires
+class-requires c = (c.requires.0, c.requires.1.classes)
 
-pub returns-in_default : goal.returns-in_default
-returns-in_default c = class_item_refused c.requires.0 c.requires.1 c.class-read.ensures c.in_default.is
+pub returns-in_err-q-clause-reads : goal.returns-in_err-q-clause-reads
+returns-in_err-q-clause-reads c = rw (still_refused c.from_residual.ensures c.in_err-q.was) (class_item_refused c.requires.0 c.requires.1 c.class.ensures.reads (got_err c.in_err-q.was))
 
-pub make-made-requires : goal.make-made-requires
-make-made-requires c = class_lent c.requires.0 c.requires.1 c.class-read.ensures c.in-Read.is
+pub make-requires : goal.make-requires
+make-requires c = class_lent c.requires.0 c.requires.1 c.class.ensures.reads (got_ok c.in_ok-q.was)
 
-pub returns-in_default-made : goal.returns-in_default-made
-returns-in_default-made c = class_full c.requires.0 c.requires.1 c.class-read.ensures c.in-Read.is c.row-declared.ensures c.make-made.ensures c.in_default-made.is
+pub returns-in_err-r-clause-reads : goal.returns-in_err-r-clause-reads
+returns-in_err-r-clause-reads c = rw (still_refused c.from_residual-in_err-r.ensures c.in_err-r.was) (class_full c.requires.0 c.requires.1 c.class.ensures.reads (got_ok c.in_ok-q.was) c.row-declared.ensures c.make.ensures.makes (got_err c.in_err-r.was))
 
 pub stated-requires : goal.stated-requires
-stated-requires c = room_of (class_next c.requires.0 c.requires.1 c.class-read.ensures c.in-Read.is c.row-declared.ensures c.make-made.ensures c.in-Read-made.is)
+stated-requires c = room_of (class_next c.requires.0 c.requires.1 c.class.ensures.reads (got_ok c.in_ok-q.was) c.row-declared.ensures c.make.ensures.makes (got_ok c.in_ok-r.was))
 
-pub returns : goal.returns
-returns c = class_itemed c.requires.0 c.requires.1 c.class-read.ensures c.in-Read.is c.row-declared.ensures c.make-made.ensures c.in-Read-made.is c.stated.ensures
+pub returns-clause-reads : goal.returns-clause-reads
+returns-clause-reads c = class_itemed c.requires.0 c.requires.1 c.class.ensures.reads (got_ok c.in_ok-q.was) c.row-declared.ensures c.make.ensures.makes (got_ok c.in_ok-r.was) c.stated.ensures.acts

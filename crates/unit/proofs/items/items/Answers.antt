@@ -1,51 +1,65 @@
 -- `items`: each turn reads one item, and what is left of the text falls. Assumes nothing.
-use Rattle.std.proofs.Common.{◌∙◌}
+use Rattle.std.proofs.Common.{refl, ◌∙◌}
+use Rattle.characters.specs.Answers.{handed}
 use Rattle.makers.specs.Laws.Acts.{room_of}
 use Rattle.makers.specs.Laws.Turns.{turn_less}
+use Rattle.unit.specs.Laws.Exits.{got_ok, got_err, still_refused, let_through}
 use Rattle.unit.specs.Laws.Items.{items_first, items_wrong, items_end, items_class, items_statement, items_refused, items_further, items_on}
 use Rattle.unit.proofs.items.items.Goals as goal
 
-pub loop-refusal-init : goal.loop-refusal-init
-loop-refusal-init c = items_first c.requires
+pub loop-q-init : goal.loop-q-init
+loop-q-init c = record { lent = refl; turns = items_first c.requires }
 
-pub item_of-head-requires : goal.item_of-head-requires
-item_of-head-requires c = c.loop-refusal.invariant.ready.stands
+pub item_of-requires : goal.item_of-requires
+item_of-requires c = c.loop-q.invariant.turns.ready.stands
 
-pub returns-in-Wrong : goal.returns-in-Wrong
-returns-in-Wrong c = items_wrong c.loop-refusal.invariant c.item_of-head.ensures c.in-Wrong.is
+pub returns-in_err-q-clause-reads : goal.returns-in_err-q-clause-reads
+returns-in_err-q-clause-reads c = rw (handed c.from_residual.ensures) (items_wrong c.loop-q.invariant.turns c.item_of.ensures c.in_err-q.was)
 
 pub unit_end-requires : goal.unit_end-requires
-unit_end-requires c = room_of c.loop-refusal.invariant.ready
+unit_end-requires c = room_of c.loop-q.invariant.turns.ready
 
-pub returns-in-End : goal.returns-in-End
-returns-in-End c = items_end c.loop-refusal.invariant c.item_of-head.ensures c.in-End.is c.unit_end.ensures
+pub returns-in-End-clause-reads : goal.returns-in-End-clause-reads
+returns-in-End-clause-reads c = items_end c.loop-q.invariant.turns c.item_of.ensures (let_through c.in_ok-q.was c.in-End.is) c.unit_end.ensures.acts
 
-pub class_item-got-requires : goal.class_item-got-requires
-class_item-got-requires c = ((items_class c.loop-refusal.invariant c.item_of-head.ensures c.in-Class.is).0, c.loop-refusal.invariant.well)
+pub class_item-requires : goal.class_item-requires
+class_item-requires c = ((items_class c.loop-q.invariant.turns c.item_of.ensures (let_through c.in_ok-q.was c.in-Class.is)).0, c.loop-q.invariant.turns.well)
 
-pub shape_of-pool-in_default : goal.shape_of-pool-in_default
-shape_of-pool-in_default c = c.class_item-got.auto.pool ∙ c.loop-refusal.invariant.same
+pub returns-in_err-here-in-Class-clause-reads : goal.returns-in_err-here-in-Class-clause-reads
+returns-in_err-here-in-Class-clause-reads c =
+    let f = let_through c.in_ok-q.was c.in-Class.is in
+    rw (still_refused c.from_residual-in_err-here-in-Class.ensures c.in_err-here-in-Class.was) (items_refused c.loop-q.invariant.turns c.item_of.ensures f (items_class c.loop-q.invariant.turns c.item_of.ensures f).1 (c.class_item.ensures.reads.itemed c.loop-q.globals) (got_err c.in_err-here-in-Class.was))
 
-pub returns-in_default : goal.returns-in_default
-returns-in_default c = items_refused c.loop-refusal.invariant c.item_of-head.ensures c.in-Class.is (items_class c.loop-refusal.invariant c.item_of-head.ensures c.in-Class.is).1 (c.class_item-got.ensures.itemed c.loop-refusal.globals) c.in_default.is
+pub loop-q-smaller-in-Class : goal.loop-q-smaller-in-Class
+loop-q-smaller-in-Class c =
+    let f = let_through c.in_ok-q.was c.in-Class.is in
+    turn_less (items_further c.loop-q.invariant.turns c.item_of.ensures f (items_class c.loop-q.invariant.turns c.item_of.ensures f).1 (c.class_item.ensures.reads.itemed c.loop-q.globals) (got_ok c.in_ok-here-in-Class.was))
 
-pub loop-refusal-smaller-in-Class : goal.loop-refusal-smaller-in-Class
-loop-refusal-smaller-in-Class c = turn_less (items_further c.loop-refusal.invariant c.item_of-head.ensures c.in-Class.is (items_class c.loop-refusal.invariant c.item_of-head.ensures c.in-Class.is).1 (c.class_item-got.ensures.itemed c.loop-refusal.globals) c.in-Read.is)
+pub loop-q-preserved-in-Class : goal.loop-q-preserved-in-Class
+loop-q-preserved-in-Class c =
+    let f = let_through c.in_ok-q.was c.in-Class.is in
+    record {
+      lent = c.class_item.ensures.lent ∙ c.loop-q.invariant.lent;
+      turns = items_on c.loop-q.invariant.turns c.item_of.ensures f (items_class c.loop-q.invariant.turns c.item_of.ensures f).1 (c.class_item.ensures.reads.itemed c.loop-q.globals) (got_ok c.in_ok-here-in-Class.was);
+    }
 
-pub loop-refusal-preserved-in-Class : goal.loop-refusal-preserved-in-Class
-loop-refusal-preserved-in-Class c = items_on c.loop-refusal.invariant c.item_of-head.ensures c.in-Class.is (items_class c.loop-refusal.invariant c.item_of-head.ensures c.in-Class.is).1 (c.class_item-got.ensures.itemed c.loop-refusal.globals) c.in-Read.is c.class_item-got.auto.pool
+pub statement_item-requires : goal.statement_item-requires
+statement_item-requires c = ((items_statement c.loop-q.invariant.turns c.item_of.ensures (let_through c.in_ok-q.was c.in-Statement.is)).0, c.loop-q.invariant.turns.well, c.loop-q.invariant.turns.few)
 
-pub statement_item-step-requires : goal.statement_item-step-requires
-statement_item-step-requires c = ((items_statement c.loop-refusal.invariant c.item_of-head.ensures c.in-Statement.is).0, c.loop-refusal.invariant.well, c.loop-refusal.invariant.few)
+pub returns-in_err-here-in-Statement-clause-reads : goal.returns-in_err-here-in-Statement-clause-reads
+returns-in_err-here-in-Statement-clause-reads c =
+    let f = let_through c.in_ok-q.was c.in-Statement.is in
+    rw (still_refused c.from_residual-in_err-here-in-Statement.ensures c.in_err-here-in-Statement.was) (items_refused c.loop-q.invariant.turns c.item_of.ensures f (items_statement c.loop-q.invariant.turns c.item_of.ensures f).1 c.statement_item.ensures.reads (got_err c.in_err-here-in-Statement.was))
 
-pub shape_of-pool-in_default-got : goal.shape_of-pool-in_default-got
-shape_of-pool-in_default-got c = c.statement_item-step.auto.pool ∙ c.loop-refusal.invariant.same
+pub loop-q-smaller : goal.loop-q-smaller
+loop-q-smaller c =
+    let f = let_through c.in_ok-q.was c.in-Statement.is in
+    turn_less (items_further c.loop-q.invariant.turns c.item_of.ensures f (items_statement c.loop-q.invariant.turns c.item_of.ensures f).1 c.statement_item.ensures.reads (got_ok c.in_ok-here-in-Statement.was))
 
-pub returns-in_default-got : goal.returns-in_default-got
-returns-in_default-got c = items_refused c.loop-refusal.invariant c.item_of-head.ensures c.in-Statement.is (items_statement c.loop-refusal.invariant c.item_of-head.ensures c.in-Statement.is).1 c.statement_item-step.ensures c.in_default-got.is
-
-pub loop-refusal-smaller : goal.loop-refusal-smaller
-loop-refusal-smaller c = turn_less (items_further c.loop-refusal.invariant c.item_of-head.ensures c.in-Statement.is (items_statement c.loop-refusal.invariant c.item_of-head.ensures c.in-Statement.is).1 c.statement_item-step.ensures c.in-Read-got.is)
-
-pub loop-refusal-preserved : goal.loop-refusal-preserved
-loop-refusal-preserved c = items_on c.loop-refusal.invariant c.item_of-head.ensures c.in-Statement.is (items_statement c.loop-refusal.invariant c.item_of-head.ensures c.in-Statement.is).1 c.statement_item-step.ensures c.in-Read-got.is c.statement_item-step.auto.pool
+pub loop-q-preserved : goal.loop-q-preserved
+loop-q-preserved c =
+    let f = let_through c.in_ok-q.was c.in-Statement.is in
+    record {
+      lent = c.statement_item.ensures.lent ∙ c.loop-q.invariant.lent;
+      turns = items_on c.loop-q.invariant.turns c.item_of.ensures f (items_statement c.loop-q.invariant.turns c.item_of.ensures f).1 c.statement_item.ensures.reads (got_ok c.in_ok-here-in-Statement.was);
+    }

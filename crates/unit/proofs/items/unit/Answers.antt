@@ -1,15 +1,17 @@
 -- `unit` by its rule: no `from`, then its items. Assumes nothing.
+use Rattle.characters.specs.Answers.{handed}
+use Rattle.unit.specs.Laws.Exits.{let_through}
 use Rattle.unit.specs.Laws.Items.{unit_here, unit_halts, unit_from, unit_read}
 use Rattle.unit.proofs.items.unit.Goals as goal
 
+pub returns-in_err-here-clause-reads : goal.returns-in_err-here-clause-reads
+returns-in_err-here-clause-reads c = rw (handed c.from_residual.ensures) (unit_halts c.keyword.ensures c.in_err-here.was)
+
+pub returns-in-Found-clause-reads : goal.returns-in-Found-clause-reads
+returns-in-Found-clause-reads c = unit_from c.keyword.ensures (let_through c.in_ok-here.was c.in-Found.is)
+
 pub items-requires : goal.items-requires
-items-requires c = unit_here c.requires c.keyword-first.ensures c.in-Missing.is
+items-requires c = unit_here c.requires c.keyword.ensures (let_through c.in_ok-here.was c.in-Missing.is)
 
-pub returns-in-Halted : goal.returns-in-Halted
-returns-in-Halted c = unit_halts c.keyword-first.ensures c.in-Halted.is
-
-pub returns-in-Found : goal.returns-in-Found
-returns-in-Found c = unit_from c.keyword-first.ensures c.in-Found.is
-
-pub returns-in-Missing : goal.returns-in-Missing
-returns-in-Missing c = unit_read c.keyword-first.ensures c.requires c.in-Missing.is c.items.ensures
+pub returns-in-Missing-clause-reads : goal.returns-in-Missing-clause-reads
+returns-in-Missing-clause-reads c = unit_read c.keyword.ensures c.requires (let_through c.in_ok-here.was c.in-Missing.is) c.items.ensures.reads

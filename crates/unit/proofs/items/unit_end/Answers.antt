@@ -1,12 +1,13 @@
 -- `unit_end` by its rule: a block, then a function. Assumes nothing.
+use Rattle.unit.specs.Laws.Exits.{got_ok, got_err, still_refused}
 use Rattle.unit.specs.Laws.Items.{block_full, block_room, unit_ended}
 use Rattle.unit.proofs.items.unit_end.Goals as goal
 
-pub returns-in_default : goal.returns-in_default
-returns-in_default c = block_full c.args.from c.args.last c.row-block.ensures c.make-made.ensures c.in_default.is
+pub returns-in_err-q-clause-acts : goal.returns-in_err-q-clause-acts
+returns-in_err-q-clause-acts c = rw (still_refused c.from_residual.ensures c.in_err-q.was) (block_full c.args.from c.args.last c.row-block.ensures c.make.ensures.makes (got_err c.in_err-q.was))
 
 pub make_fun-requires : goal.make_fun-requires
-make_fun-requires c = block_room c.args.from c.args.last c.row-block.ensures c.make-made.ensures c.in-Read.is c.requires
+make_fun-requires c = block_room c.args.from c.args.last c.row-block.ensures c.make.ensures.makes (got_ok c.in_ok-q.was) c.requires
 
-pub returns : goal.returns
-returns c = unit_ended c.args.from c.args.last c.row-block.ensures c.make-made.ensures c.in-Read.is c.make_fun.ensures
+pub returns-clause-acts : goal.returns-clause-acts
+returns-clause-acts c = unit_ended c.args.from c.args.last c.row-block.ensures c.make.ensures.makes (got_ok c.in_ok-q.was) c.make_fun.ensures.acts

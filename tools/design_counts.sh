@@ -16,8 +16,10 @@ count '3  of these with an index that the loop counts itself'      '^ +[a-z]+ (\
 count '3  loops: for, iterator methods'                            '^ *for\b|\.(iter|position|all|any|zip|starts_with|contains)\('
 count '4  conversions by hand: number, of, pack, unpack, low ..'   '^ *(pub )?fn (number|of|pack|unpack|low|high|whole)\('
 count '5a clauses on a place, a length, what may be called'        'requires.*(Stands text|length text.now (≤ 65535|< 2 \^ 31)|Ready|Begun|Room|MayRead|MayGoOn)'
-count '5b functions with six parameters or more on one line'       'fn [a-z_]+(<[^>]*>)?\([^)]*,[^)]*,[^)]*,[^)]*,[^)]*,[^)]*[^,)]\)'
-count '5c pool, cap and tally as parameters of their own'          '^ *(pub )?fn .*pool: .*cap: u32.*t: Tally|^    cap: u32,$'
+heads() { cat $files | grep -vE '^ *//' | tr '\n' ' ' | grep -oE 'fn [a-z_0-9]+(<[^>]*>)?\([^()]*\)'; }
+many() { printf '%-66s %s\n' "$1" "$(heads | grep -E "$2" | awk '{ if (gsub(/: /, ": ") >= '"$3"') n++ } END { print n + 0 }')"; }
+many '5b functions with six parameters or more'                    '' 6
+many '5c functions that take pool, limit and tally apart'          'pool: .*cap: .*: (&mut )?Tally' 0
 count '6  a buffer with the place in it beside'                    'fn .*out: &mut \[u8\], at: usize|^    out: &mut \[u8\],$'
 count '7  switches on which step to run'                           'match (mode|naming|form) \{'
 count 'functions'                                                  '^ *(pub )?fn '

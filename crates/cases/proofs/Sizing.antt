@@ -1,8 +1,8 @@
 -- What the loop over a number's digits keeps, and how it ends. Assumes nothing.
-use Rattle.std.proofs.Common.{◌≡◌, refl, sym, ap, ◌∙◌, Bool, true, false, ◌&&◌, ◌∷◌, ℕ, suc, ◌+◌, ◌-◌, ◌*◌, ◌≤◌, ◌<◌, arith, ltb, length, drop, lt-ltb, le-ltb, le-leb, ltb-true, ltb-false}
-use borrow.Author.Tests.{lt-leb}
-use Rattle.characters.specs.Text.{Text, byte_at, ByteOf}
-use Rattle.characters.specs.PlaceLaws.{from_byte, from_end}
+use Rattle.std.proofs.Common.{◌≡◌, refl, sym, ap, ◌∙◌, Bool, true, false, ◌&&◌, ◌∷◌, ℕ, suc, ◌+◌, ◌-◌, ◌*◌, ◌≤◌, ◌<◌, arith, leb, ltb, length, drop, slice_index_or, lt-ltb, le-ltb, leb-true, ltb-true, ltb-false}
+use Rattle.std.proofs.Math.Bool.{and-eq-true_iff}
+use Rattle.characters.specs.Text.{Text, byte_at}
+use Rattle.characters.specs.PlaceLaws.{from_byte, from_end, get_d_any, in_text}
 use Rattle.cases.specs.Cases.{is_digit, sized, size_in, size_at, SizeOf}
 
 -- what is left of the number leads to the same answer
@@ -24,12 +24,18 @@ size_ends : (b : ℕ) (l : Text) (v o : ℕ) → (ltb v 100000000 && is_digit b)
 unfolding size_in
 size_ends b l v o e = rw (e, size_in) refl
 
-pub sizing_on : {s : Text} {at v o b : ℕ} → Sizing s at v o → v < 100000000 → ByteOf s o b → 48 ≤ b → b ≤ 57 → Sizing s at (v * 10 + (b - 48)) (o + 1)
-sizing_on {s} {at} {v} {o} {b} w h e l u =
+pub sizing_on : {s : Text} {at v o : ℕ} → Sizing s at v o → v < 100000000 → true ≡ is_digit (byte_at s o) → Sizing s at (v * 10 + (slice_index_or s o 0 - 48)) (o + 1)
+sizing_on {s} {at} {v} {o} w h e =
+    let b = byte_at s o in
+    let d = slice_index_or s o 0 in
+    let p = (and-eq-true_iff (leb 48 b) (leb b 57)).0 (sym e) in
+    let u : b ≤ 57 = leb-true b 57 p.1 in
+    let z : d ≡ b = get_d_any s o 0 256 (in_text s o (omega arith)) in
     record {
       same =
-          sym (size_digit b (drop (o + 1) s) v o (rw (lt-ltb v 100000000 h, le-leb 48 b l, le-leb b 57 u)))
-          ∙ sym (ap (λ (x : Text). size_in x v o) (from_byte s o b e.is (omega arith)))
+          ap (λ (x : ℕ). size_in (drop (o + 1) s) (v * 10 + (x - 48)) (o + 1)) z
+          ∙ sym (size_digit b (drop (o + 1) s) v o (ap (λ (t : Bool). t && is_digit b) (lt-ltb v 100000000 h) ∙ sym e))
+          ∙ sym (ap (λ (x : Text). size_in x v o) (from_byte s o b refl (omega arith)))
           ∙ w.same;
       small = omega arith;
     }
@@ -55,17 +61,8 @@ no_digit_here v b e = go (ltb v 100000000) (is_digit b) e
     go true u z = z
     go false u z = refl
 
-low_no_digit : (b : ℕ) → b < 48 → is_digit b ≡ false
-low_no_digit b h = rw (lt-leb 48 b h)
-
-high_no_digit : (b : ℕ) → 57 < b → is_digit b ≡ false
-high_no_digit b h = rw (le-leb 48 b (omega arith), lt-leb b 57 h)
-
-pub sized_low : {s : Text} {at v o b : ℕ} → Sizing s at v o → ByteOf s o b → b < 48 → SizeOf s at (sized v o)
-sized_low {s} {at} {v} {o} {b} w e h = sized_by w (size_stops s v o (λ x z. no_digit_here v x (low_no_digit x (let y = e.is in omega arith))))
-
-pub sized_high : {s : Text} {at v o b : ℕ} → Sizing s at v o → ByteOf s o b → 57 < b → SizeOf s at (sized v o)
-sized_high {s} {at} {v} {o} {b} w e h = sized_by w (size_stops s v o (λ x z. no_digit_here v x (high_no_digit x (let y = e.is in omega arith))))
+pub sized_here : {s : Text} {at v o : ℕ} → Sizing s at v o → false ≡ is_digit (byte_at s o) → SizeOf s at (sized v o)
+sized_here {s} {at} {v} {o} w e = sized_by w (size_stops s v o (λ x z. no_digit_here v x (ap is_digit z ∙ sym e)))
 
 pub sized_full : {s : Text} {at v o : ℕ} → Sizing s at v o → 100000000 ≤ v → SizeOf s at (sized v o)
 sized_full {s} {at} {v} {o} w h = sized_by w (size_stops s v o (λ x z. rw (le-ltb v 100000000 h)))

@@ -1,3 +1,4 @@
 pub mod Cases
 pub mod CaseLaws
 pub mod WalkLaws
+pub mod Walks

@@ -2,30 +2,29 @@
 // small letter, LENGTH a decimal number. The texts may hold any bytes.
 #![tactic(auto)]
 
+use characters::names::is_small;
 use characters::place::Place;
 
 pub mod say;
 
-ghost use Rattle.std.specs.Prelude.{◌≡◌, ◌<◌, ◌^◌, length};
-ghost use Rattle.characters.specs.Text.{ByteOf, Stands};
-ghost use Rattle.cases.specs.Cases.{SizeOf, case_at, is_kind};
+ghost use Rattle.std.specs.Prelude.{◌≡◌, ◌<◌, ◌^◌, eqb, length};
+ghost use Rattle.characters.specs.Text.{Stands, byte_at};
+ghost use Rattle.cases.specs.Cases.{SizeOf, case_at, is_digit};
+ghost use Rattle.cases.specs.Walks.{Walked};
 
-// What stands at an offset of a list.
+// A case: its text goes from `from` up to `to`, and `next` is past it.
 #[derive(Clone, Copy, Debug, PartialEq, Eq)]
-pub enum Case {
-    // A case: its text goes from `from` up to `to`, and `next` is past it.
-    Text {
-        kind: u8,
-        from: usize,
-        to: usize,
-        next: usize,
-    },
-    // Nothing is left.
-    End,
-    // No case begins here.
-    Bad {
-        at: usize,
-    },
+pub struct Case {
+    pub kind: u8,
+    pub from: usize,
+    pub to: usize,
+    pub next: usize,
+}
+
+// No case begins at this offset.
+#[derive(Clone, Copy, Debug, PartialEq, Eq)]
+pub struct BadCase {
+    pub at: usize,
 }
 
 // The length that a case states, and the offset after its digits.
@@ -35,22 +34,18 @@ pub struct Size {
     pub after: usize,
 }
 
-// The byte at an offset, or 256 past the end.
-fn byte(list: &[u8], at: usize) -> u32
-    ensures { ByteOf list.now at result }
+// Does this byte stand at an offset?
+fn has(list: &[u8], at: usize, byte: u8) -> bool
+    ensures { result ≡ eqb (byte_at list.now at) byte }
 {
-    if at < list.len() {
-        list[at] as u32
-    } else {
-        256
-    }
+    at < list.len() && list[at] == byte
 }
 
-// A small letter.
-fn is_kind(b: u32) -> bool
-    ensures { result ≡ is_kind b }
+// Does a digit stand at an offset?
+fn has_digit(list: &[u8], at: usize) -> bool
+    ensures { result ≡ is_digit (byte_at list.now at) }
 {
-    matches!(b, 97..=122)
+    at < list.len() && list[at].is_ascii_digit()
 }
 
 // The number at an offset. Its value stays below a thousand millions, so that no sum wraps.
@@ -59,56 +54,68 @@ fn size_at(list: &[u8], at: usize) -> Size
 {
     let mut value: usize = 0;
     let mut after = at;
-    while value < 100000000 {
-        let b = byte(list, after);
-        if b < 48 {
-            return Size { value, after };
-        }
-        if 57 < b {
-            return Size { value, after };
-        }
-        let digit = (b - 48) as usize;
-        value = value * 10 + digit;
+    while value < 100000000 && has_digit(list, after) {
+        value = value * 10 + (list[after] - b'0') as usize;
         after += 1;
     }
     Size { value, after }
 }
 
-// The case at an offset.
-pub fn next(list: &[u8], at: usize) -> Case
+// The case at an offset, or `None` past the end.
+#[tactic(auto, unfolding(crate::specs::Cases::case_at))]
+pub fn next(list: &[u8], at: usize) -> Result<Option<Case>, BadCase>
     ensures { result ≡ case_at list.now at }
 {
-    let kind = byte(list, at);
-    if kind == 256 {
-        return Case::End;
+    let Some(&kind) = list.get(at) else {
+        return Ok(None);
+    };
+    if !is_small(kind) || !has(list, at + 1, b' ') {
+        return Err(BadCase { at });
     }
-    if !is_kind(kind) {
-        return Case::Bad { at };
+    let size = size_at(list, at + 2);
+    if size.after <= at + 2 || !has(list, size.after, b'\n') {
+        return Err(BadCase { at });
     }
-    if byte(list, at + 1) != 32 {
-        return Case::Bad { at };
+    let from = size.after + 1;
+    let to = from + size.value;
+    if !has(list, to, b'\n') {
+        return Err(BadCase { at });
     }
-    let first = at + 2;
-    let n = size_at(list, first);
-    let after = n.after;
-    if after <= first {
-        return Case::Bad { at };
-    }
-    if byte(list, after) != 10 {
-        return Case::Bad { at };
-    }
-    let from = after + 1;
-    let to = from + n.value;
-    if byte(list, to) != 10 {
-        return Case::Bad { at };
-    }
-    let letter = kind as u8;
     let past = to + 1;
-    Case::Text {
-        kind: letter,
+    Ok(Some(Case {
+        kind,
         from,
         to,
         next: past,
+    }))
+}
+
+// Hands on the kind and the text of one case after the other, up to the end of the list or to where no case begins.
+pub fn replay<F: Fn(u8, &[u8])>(list: &[u8], answer: F) -> Result<(), BadCase>
+    requires short { length list.now < 2 ^ 31 }
+    requires answers { (kind : _) (text : _) → length text.now < 2 ^ 31 → F.pre answer kind text }
+    ensures { Walked list.now 0 result }
+{
+    let mut at = 0;
+    while let Some(case) = next(list, at)? {
+        answer(case.kind, &list[case.from..case.to]);
+        at = case.next;
+    }
+    Ok(())
+}
+
+// Replays the list on standard input, for which it is lent space. A list that fills the space may have been cut, so it is not replayed.
+pub fn replay_input<F: Fn(u8, &[u8])>(space: &mut [u8], answer: F)
+    requires short { length space.old < 2 ^ 31 }
+    requires answers { (kind : _) (text : _) → length text.now < 2 ^ 31 → F.pre answer kind text }
+{
+    let n = io::read_full(0, space);
+    if n == space.len() {
+        say::bytes(b"the list is too long\n");
+        return;
+    }
+    if let Err(bad) = replay(&space[..n], answer) {
+        say::bad(bad);
     }
 }
 

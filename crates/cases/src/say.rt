@@ -1,4 +1,5 @@
 // What the programs over lists of cases write.
+use crate::BadCase;
 use characters::place::{Place, Token};
 use characters::refusal::Refused;
 
@@ -28,9 +29,9 @@ pub fn taken(answer: Result<Token, Refused>) {
     }
 }
 
-// No case begins at this offset of the list.
-pub fn bad(at: usize) {
+// Where no case begins.
+pub fn bad(case: BadCase) {
     bytes(b"no case at ");
-    io::print_decimal(1, at as u64);
+    io::print_decimal(1, case.at as u64);
     bytes(b"\n");
 }

@@ -9,16 +9,18 @@ use native.Mathlib.Nat.{pow-zero, pow-succ', pow-le-pow_right, mul-one, one-mul,
 use lib.ListN.{length, take, drop, get_or, length-take, length-drop, get_or-eq_default}
 use lib.Seq.{take-suc, get_or-drop, get_or-take}
 use borrow.Author.Tests.{ltb-true, ltb-false, not-true, not-false}
-use Rattle.std.specs.Prelude.{Ok}
+use Rattle.std.specs.Prelude.{Ok, None, Option, Some}
 use Rattle.characters.specs.declared.place.Place.{Place}
-use Rattle.characters.specs.declared.refusal.Refusal.TheVariants.{ExpectedIdentifier}
+use Rattle.characters.specs.declared.refusal.Refusal.TheVariants.{ExpectedIdentifier, ReservedWord}
 use Rattle.characters.specs.declared.place.Token.{Token}
 use Rattle.characters.specs.Answers.{taken, failed}
 use Rattle.characters.specs.Text.{Text, byte_at, ByteOf, on_by, Stands}
 use Rattle.characters.specs.PlaceLaws.{in_text}
 use Rattle.characters.specs.Counts.{end_of}
 use Rattle.characters.specs.CountLaws.{end_inside}
-use Rattle.characters.specs.Names.{is_letter, is_name_byte, name_by, name, part, fold_of}
+use Rattle.characters.specs.Names.{is_letter, is_name_byte, name_by, name, part, word_of, free_by, free_name, fold_of}
+use Rattle.characters.specs.declared.reserved.Word.{Word}
+use Rattle.characters.specs.WordNumbers.{number_of, number_of_word, some_word}
 use Rattle.characters.specs.NameLaws.{letter_is_name, name_byte_low, name_by_end, end_past_letter, NamedOn, name_on}
 
 -- ---- a name
@@ -135,3 +137,19 @@ name_spans {s} {at} {t} v e =
     let i : t.next.offset ≤ length s = n.1.stands.inside in
     let z : t.here.offset ≡ at.offset = ap (λ (x : Place). x.offset) n.0 in
     (omega arith, i)
+
+-- what stands there is a reserved word, or none
+module _ (s : Text) (at : Place) {t : Token} {r : Option Word} (e : Ok t ≡ name s at) (f : number_of_word r ≡ word_of (part s t.here.offset t.next.offset)) where
+  pub free_barred : {w : Word} → r ≡ Some w → failed ReservedWord t.here ≡ free_name s at
+  unfolding free_name
+  free_barred {w} z =
+      let k : word_of (part s t.here.offset t.next.offset) ≡ number_of w = sym f ∙ ap number_of_word z in
+      let y : failed ReservedWord t.here ≡ free_by s (Ok t) = rw (k, some_word w, free_by) refl in
+      y ∙ ap (free_by s) e
+
+  pub free_taken : r ≡ None → Ok t ≡ free_name s at
+  unfolding free_name
+  free_taken z =
+      let k : word_of (part s t.here.offset t.next.offset) ≡ 0 = sym f ∙ ap number_of_word z in
+      let y : Ok t ≡ free_by s (Ok t) = rw (k, free_by) refl in
+      y ∙ ap (free_by s) e

@@ -14,7 +14,6 @@ use Rattle.characters.specs.PlaceLaws.{get_d_any}
 use Rattle.characters.specs.Names.{part, same, reserved, numbered, word_of, fold_of}
 use Rattle.characters.proofs.Naming.{part_length, part_bytes}
 use Rattle.characters.specs.AlikeLaws.{drop_take, part_byte}
-use Rattle.characters.specs.TableLaws.{at_key, Others, no_key}
 use Rattle.characters.specs.Words.{slot_of, head_of, slot, head, tail, slots, heads, rests}
 
 -- ---- the computed test
@@ -280,11 +279,3 @@ module _ (s : Text) (from to : ℕ) (h : from ≤ to) (l : to ≤ length s) wher
 
   pub too_long : 10 < to - from → 0 ≡ word_of (part s from to)
   too_long g = not_so_long (part s from to) (λ p q. let z = part_length s from to h l in omega arith)
-
--- ---- the arms of a slot
-
-pub slot_key : {i k : ℕ} → i ≡ k → (get_or slots k 0 ≡ get_or slots i 0) × (get_or slots k 0 < 29)
-slot_key {i} {k} e = (at_key slots e, below_at 29 slots slots_below (omega arith) k)
-
-pub slot_none : (i : ℕ) → Others (Unit {0}) i 0 slots → (0 ≡ get_or slots i 0) × (0 < 29)
-slot_none i h = (no_key slots i h, omega arith)

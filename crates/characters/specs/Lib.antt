@@ -6,6 +6,7 @@ pub mod Counts
 pub mod Eights
 pub mod Blanks
 pub mod Names
+pub mod WordNumbers
 pub mod Words
 pub mod Tokens
 pub mod PlaceLaws

@@ -6,5 +6,6 @@ pub mod eights;
 pub mod names;
 pub mod place;
 pub mod refusal;
+pub mod reserved;
 pub mod tokens;
 pub mod utf8;

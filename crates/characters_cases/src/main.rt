@@ -5,49 +5,15 @@
 
 ghost use Rattle.std.specs.Prelude.{◌<◌, ◌^◌, length};
 
-use cases::{Case, say};
+use cases::say;
 use characters::place::Place;
 use characters::refusal::Refused;
 use characters::tokens::Look;
 use characters::{blanks, names, tokens, utf8};
 
-// A list that fills the buffer may have been cut, so it is not replayed.
 fn main() {
     let mut space = io::large_buffer();
-    let n = io::read_full(0, &mut space);
-    if 65535 < n {
-        io::write_all(1, b"the list is too long\n");
-        return;
-    }
-    replay(&space[..n]);
-}
-
-// Answers one case after the other, and stops where none begins.
-fn replay(list: &[u8])
-    requires { length list.now < 2 ^ 31 }
-{
-    let mut at: usize = 0;
-    loop {
-        let case = cases::next(list, at);
-        match case {
-            Case::Text {
-                kind,
-                from,
-                to,
-                next,
-            } => {
-                answer(kind, &list[from..to]);
-                at = next;
-            }
-            Case::End => {
-                return;
-            }
-            Case::Bad { at: q } => {
-                say::bad(q);
-                return;
-            }
-        }
-    }
+    cases::replay_input(&mut space, answer);
 }
 
 // What a kind asks of its text: b blanks, n a name that is no reserved word, m any name, k the keyword `break`, u UTF-8,

@@ -12,14 +12,18 @@ use mir.Syntax.{w64}
 use mir.Val.{Fits, of_z, to_z}
 use mir.ValLaws.{to_z_pos}
 use borrow.Author.Tests.{ne_eqb, le-leb, lt-leb}
-use Rattle.std.specs.Prelude.{Ok, Result}
+use Rattle.std.specs.Prelude.{Ok, Result, eqb}
 use Rattle.characters.specs.declared.place.Place.{Place}
 use Rattle.characters.specs.declared.refusal.Refused.{Refused}
 use Rattle.characters.specs.declared.place.Token.{Token}
-use Rattle.characters.specs.Answers.{Must}
+use Rattle.characters.specs.declared.refusal.Refusal.TheVariants.{ReservedWord}
+use Rattle.characters.specs.declared.reserved.Word.{Word}
+use Rattle.characters.specs.declared.reserved.Word.TheVariants as words
+use Rattle.characters.specs.WordNumbers.{number_of, other_word, some_word}
+use Rattle.characters.specs.Answers.{Must, failed}
 use Rattle.characters.specs.Text.{Text, ByteOf, Stands}
 use Rattle.characters.specs.PlaceLaws.{Advanced}
-use Rattle.characters.specs.Names.{is_digit, is_letter, name}
+use Rattle.characters.specs.Names.{is_digit, is_letter, name, part, word_of}
 use Rattle.characters.specs.NameLaws.{NamedOn, name_on}
 use Rattle.literals.specs.declared.numbers.Numeral.TheVariants.{Int, Float}
 use Rattle.literals.specs.declared.numbers.Numeral.{Numeral}
@@ -28,7 +32,7 @@ use Rattle.literals.specs.NumberLaws.{Small, int_small, float_advances}
 use Rattle.records.specs.declared.kind.Kind.TheVariants as kinds
 use Rattle.grammar.specs.declared.leaves.Atom.TheVariants.{Leaf}
 use Rattle.grammar.specs.declared.leaves.Atom.{Atom}
-use Rattle.grammar.specs.Leaves.{nat_of, number_atom, atom_by, atom_of}
+use Rattle.grammar.specs.Leaves.{nat_of, number_atom, word_atom, name_atom, atom_by, atom_of}
 use Rattle.grammar.specs.AtomLaws.{SpanOn, sign_atom, atom_sign}
 
 -- ---- spans
@@ -97,3 +101,19 @@ pub from_sign : (s : Text) (h : Place) {b : ℕ} {r : Result Atom Refused} {t : 
 unfolding atom_of
 from_sign s h {b} e f z d n g =
     g ∙ sym (atom_sign s b h d (sym f ∙ z) (rw (ne_eqb b 34 (λ x. n (inl x)), ne_eqb b 39 (λ x. n (inr x))) refl)) ∙ ap (λ (x : ℕ). atom_by s x h) e.is
+
+-- ---- reserved words
+
+-- any other word than these three is no atom
+pub word_barred : (w : Word) (h q : Place) → (w ≡ words.True → ⊥) → (w ≡ words.False → ⊥) → (w ≡ words.Nil → ⊥) → failed ReservedWord h ≡ word_atom (number_of w) h q
+word_barred w h q a b c =
+    let d : eqb (number_of w) 0 ≡ false = some_word w in
+    let e : eqb (number_of w) 1 ≡ false = other_word w words.True a in
+    let f : eqb (number_of w) 2 ≡ false = other_word w words.False b in
+    let g : eqb (number_of w) 3 ≡ false = other_word w words.Nil c in
+    rw (d, e, f, g, word_atom) refl
+
+-- the atom of a name that was read, by the number of its word
+pub named_atom : (s : Text) (at : Place) {t : Token} {k : ℕ} {r : Result Atom Refused} → Ok t ≡ name s at → k ≡ word_of (part s t.here.offset t.next.offset)
+    → r ≡ word_atom k t.here t.next → r ≡ name_atom s (name s at)
+named_atom s at {t} e f g = g ∙ ap (λ (k : ℕ). word_atom k t.here t.next) f ∙ ap (name_atom s) e

@@ -14,21 +14,26 @@ use Rattle.characters.specs.declared.refusal.Refused.{Refused}
 use Rattle.characters.specs.declared.place.Token.{Token}
 use Rattle.characters.specs.declared.tokens.Look.{Look}
 use Rattle.characters.specs.declared.tokens.Look.TheVariants.{Found, Missing}
+use Rattle.characters.specs.declared.reserved.Word.{Word}
+use Rattle.characters.specs.declared.reserved.Word.TheVariants as words
+use Rattle.characters.specs.WordNumbers.{number_of, other_word}
 use Rattle.characters.specs.Answers.{missing, taken}
 use Rattle.characters.specs.Text.{Text, byte_at, ByteOf, ascii, on_by, Stands}
 use Rattle.characters.specs.PlaceLaws.{in_text, at_end, from_byte, from_end, front, on_by_stands}
 use Rattle.characters.specs.Blanks.{blanks}
-use Rattle.characters.specs.Names.{is_name_byte}
+use Rattle.characters.specs.Names.{is_name_byte, name, part, word_of}
 use Rattle.characters.specs.Tokens.{spells, found_by, is_keyword, keyword_past, keyword}
 use Rattle.characters.specs.TokenLaws.{TokenOn, keyword_on, spells_one}
 use Rattle.grammar.specs.declared.heads.ItemHead.TheVariants as item
+use Rattle.grammar.specs.declared.heads.StatementHead.{StatementHead}
+use Rattle.grammar.specs.declared.heads.StatementHead.TheVariants as head
 use Rattle.grammar.specs.declared.heads.StepHead.TheVariants as steps
 use Rattle.grammar.specs.declared.heads.Assignment.{Assignment}
 use Rattle.grammar.specs.declared.heads.ItemHead.{ItemHead}
 use Rattle.grammar.specs.declared.heads.StepHead.{StepHead}
 use Rattle.grammar.specs.Answers.{assigns}
 use Rattle.grammar.specs.Operators.{assignments, any_of}
-use Rattle.grammar.specs.Heads.{name_of, step_by, step_of, assigning, equals_by, assign_in, assign_of, item_by}
+use Rattle.grammar.specs.Heads.{name_of, word_head, name_head, step_by, step_of, assigning, equals_by, assign_in, assign_of, item_by}
 use Rattle.grammar.specs.HeadLaws.{NameOn, name_of_on, assign_rest}
 use Rattle.grammar.proofs.Leafing.{spells_first}
 use Rattle.grammar.proofs.Links.{NoneOf}
@@ -38,6 +43,27 @@ use Rattle.grammar.proofs.Links.{NoneOf}
 -- no keyword stands where its first byte does not
 pub no_keyword : (s : Text) (h : Place) (x : ℕ) (w : Text) → (byte_at s h.offset ≡ x → ⊥) → false ≡ is_keyword s h (x ∷ w)
 no_keyword s h x w n = ap (λ (t : Bool). t && not (is_name_byte (byte_at s (h.offset + length (x ∷ w))))) (sym (spells_first s h.offset x w n))
+
+-- any other word opens no statement
+pub word_rest : (w : Word) (h q : Place) → (w ≡ words.Let → ⊥) → (w ≡ words.Fun → ⊥) → (w ≡ words.If → ⊥) → (w ≡ words.Loop → ⊥) → (w ≡ words.While → ⊥) → (w ≡ words.For → ⊥) → (w ≡ words.Return → ⊥) → (w ≡ words.Break → ⊥) → (w ≡ words.Continue → ⊥) → (w ≡ words.Assert → ⊥)
+    → head.ExprOrAssign h ≡ word_head (number_of w) h q
+word_rest w h q n0 n1 n2 n3 n4 n5 n6 n7 n8 n9 =
+    let e0 : eqb (number_of w) 14 ≡ false = other_word w words.Return n6 in
+    let e1 : eqb (number_of w) 15 ≡ false = other_word w words.Break n7 in
+    let e2 : eqb (number_of w) 16 ≡ false = other_word w words.Continue n8 in
+    let e3 : eqb (number_of w) 9 ≡ false = other_word w words.If n2 in
+    let e4 : eqb (number_of w) 11 ≡ false = other_word w words.Loop n3 in
+    let e5 : eqb (number_of w) 12 ≡ false = other_word w words.While n4 in
+    let e6 : eqb (number_of w) 13 ≡ false = other_word w words.For n5 in
+    let e7 : eqb (number_of w) 17 ≡ false = other_word w words.Assert n9 in
+    let e8 : eqb (number_of w) 4 ≡ false = other_word w words.Let n0 in
+    let e9 : eqb (number_of w) 6 ≡ false = other_word w words.Fun n1 in
+    rw (e0, e1, e2, e3, e4, e5, e6, e7, e8, e9, word_head) refl
+
+-- the statement of a name that was read, by the number of its word
+pub named_head : (s : Text) (at : Place) {t : Token} {k : ℕ} {r : StatementHead} → Ok t ≡ name s at → k ≡ word_of (part s t.here.offset t.next.offset)
+    → r ≡ word_head k t.here t.next → Ok r ≡ name_head s (name s at)
+named_head s at {t} e f g = ap Ok (g ∙ ap (λ (k : ℕ). word_head k t.here t.next) f) ∙ ap (name_head s) e
 
 -- ---- items
 

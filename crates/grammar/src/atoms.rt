@@ -2,6 +2,7 @@
 ghost use Rattle.std.specs.Prelude.{◌≡◌, ◌≤◌, ◌<◌, length};
 ghost use Rattle.characters.specs.Text.{ByteOf, Stands};
 ghost use Rattle.characters.specs.Names.{name};
+ghost use Rattle.characters.specs.WordNumbers.{number_of};
 ghost use Rattle.literals.specs.Numbers.{number};
 ghost use Rattle.records.specs.Words.{span_word};
 ghost use Rattle.grammar.specs.declared.leaves.Atom.TheVariants.{Leaf};
@@ -12,6 +13,7 @@ use crate::leaves::Atom;
 use characters::names::{is_letter, name, word};
 use characters::place::{Place, Span, byte};
 use characters::refusal::{Refusal, Refused};
+use characters::reserved::Word;
 use literals::bytearrays::bytearray;
 use literals::numbers::{Numeral, number};
 use literals::strings::string;
@@ -53,24 +55,22 @@ fn number_atom(text: &[u8], at: Place) -> Result<Atom, Refused>
     }
 }
 
-// The atom of a name, by the number of its reserved word: only three of those are atoms.
-fn word_atom(k: u32, here: Place, next: Place) -> Result<Atom, Refused>
-    requires { (here.offset ≤ 65535) × (next.offset ≤ 65535) }
-    ensures { result ≡ word_atom k here next }
+// The atom that a reserved word is: only three of them are one.
+fn word_atom(word: Word, here: Place, next: Place) -> Result<Atom, Refused>
+    ensures { result ≡ word_atom (number_of word) here next }
 {
-    match k {
-        0 => Ok(span_atom(Kind::Name, here.offset, next)),
-        1 => Ok(Atom::Leaf {
+    match word {
+        Word::True => Ok(Atom::Leaf {
             kind: Kind::True,
             value: 0,
             next,
         }),
-        2 => Ok(Atom::Leaf {
+        Word::False => Ok(Atom::Leaf {
             kind: Kind::False,
             value: 0,
             next,
         }),
-        3 => Ok(Atom::Leaf {
+        Word::Nil => Ok(Atom::Leaf {
             kind: Kind::Nil,
             value: 0,
             next,
@@ -88,8 +88,10 @@ fn name_atom(text: &[u8], at: Place) -> Result<Atom, Refused>
     ensures { result ≡ name_atom text.now (name text.now at) }
 {
     let read = name(text, at)?;
-    let k = word(text, read.here.offset, read.next.offset);
-    word_atom(k, read.here, read.next)
+    match word(text, read.here.offset, read.next.offset) {
+        Some(word) => word_atom(word, read.here, read.next),
+        None => Ok(span_atom(Kind::Name, read.here.offset, read.next)),
+    }
 }
 
 // The string at `at`, with its quotes.

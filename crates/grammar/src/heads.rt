@@ -2,12 +2,14 @@
 ghost use Rattle.std.specs.Prelude.{◌≡◌};
 ghost use Rattle.characters.specs.Text.{ByteOf, Stands};
 ghost use Rattle.characters.specs.Names.{name};
+ghost use Rattle.characters.specs.WordNumbers.{number_of};
 ghost use Rattle.grammar.specs.Heads.{end_of, head_by, head_of, item_by, item_of, name_head, name_of, word_head};
 
 use crate::blanks::past;
 use characters::names::{free_name, is_letter, is_name_byte, name, word};
 use characters::place::{Place, Token, byte};
 use characters::refusal::{Refusal, Refused};
+use characters::reserved::Word;
 use characters::tokens::{Look, sign, spelled};
 
 // What a statement begins with: a keyword or `{`, with its place and the place after it, or an expression or assignment.
@@ -109,25 +111,27 @@ fn name_head(text: &[u8], at: Place) -> Result<StatementHead, Refused>
     ensures { result ≡ name_head text.now (name text.now at) }
 {
     let read = name(text, at)?;
-    let k = word(text, read.here.offset, read.next.offset);
-    Ok(word_head(k, read.here, read.next))
+    match word(text, read.here.offset, read.next.offset) {
+        Some(word) => Ok(word_head(word, read.here, read.next)),
+        None => Ok(StatementHead::ExprOrAssign { here: read.here }),
+    }
 }
 
-// The statement that the word of this number opens; every other name is left to the expression.
-fn word_head(k: u32, here: Place, next: Place) -> StatementHead
-    ensures { result ≡ word_head k here next }
+// The statement that this word opens; every other word is left to the expression.
+fn word_head(word: Word, here: Place, next: Place) -> StatementHead
+    ensures { result ≡ word_head (number_of word) here next }
 {
-    match k {
-        4 => StatementHead::Let { here, next },
-        6 => StatementHead::Fun { here, next },
-        9 => StatementHead::If { here, next },
-        11 => StatementHead::Loop { here, next },
-        12 => StatementHead::While { here, next },
-        13 => StatementHead::For { here, next },
-        14 => StatementHead::Return { here, next },
-        15 => StatementHead::Break { here, next },
-        16 => StatementHead::Continue { here, next },
-        17 => StatementHead::Assert { here, next },
+    match word {
+        Word::Let => StatementHead::Let { here, next },
+        Word::Fun => StatementHead::Fun { here, next },
+        Word::If => StatementHead::If { here, next },
+        Word::Loop => StatementHead::Loop { here, next },
+        Word::While => StatementHead::While { here, next },
+        Word::For => StatementHead::For { here, next },
+        Word::Return => StatementHead::Return { here, next },
+        Word::Break => StatementHead::Break { here, next },
+        Word::Continue => StatementHead::Continue { here, next },
+        Word::Assert => StatementHead::Assert { here, next },
         _ => StatementHead::ExprOrAssign { here },
     }
 }

@@ -1,9 +1,14 @@
 -- Plain literals, which most numbers and strings are: a reader can look for them first, and `PlainLaws` says that they are what the rules say.
 -- Nothing here need be believed. Assumes nothing.
-use Rattle.std.specs.Prelude.{◌≡◌, Bool, true, false, ◌&&◌, ◌||◌, not, [], ◌∷◌, ℕ, ◌+◌, ◌-◌, ◌*◌, ◌≤◌, ◌<◌, ◌^◌, leb, ltb, eqb}
+use Rattle.std.specs.Prelude.{◌≡◌, Bool, true, false, ◌&&◌, ◌||◌, not, [], ◌∷◌, ℕ, zero, suc, ◌+◌, ◌-◌, ◌*◌, ◌≤◌, ◌<◌, ◌^◌, leb, ltb, eqb, None, Option, Some}
 use Rattle.characters.specs.Text.{Text, byte_at}
 use Rattle.characters.specs.Counts.{end_of}
 use Rattle.characters.specs.Names.{is_digit, is_name_byte, part}
+
+-- where a literal ends, if there is one: 0 stands for none
+abbrev pub some_end : ℕ → Option ℕ
+some_end zero = None
+some_end (suc n) = Some (suc n)
 
 -- ---- integers
 

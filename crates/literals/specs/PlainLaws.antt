@@ -1,5 +1,5 @@
 -- Laws of plain literals: where one is found, the rules of all literals read it, to the same end and value. Assumes nothing.
-use Rattle.std.specs.Prelude.{◌≡◌, Bool, ◌&&◌, ◌||◌, not, [], ◌∷◌, ℕ, zero, suc, ◌+◌, ◌-◌, ◌*◌, ◌^◌, ◌≤◌, ◌<◌, leb, ltb, pos, length, take, drop, Ok, Result}
+use Rattle.std.specs.Prelude.{◌≡◌, Bool, ◌&&◌, ◌||◌, not, [], ◌∷◌, ℕ, zero, suc, ◌+◌, ◌-◌, ◌*◌, ◌^◌, ◌≤◌, ◌<◌, leb, ltb, pos, length, take, drop, Ok, Result, None, Option, Some}
 use Rattle.std.proofs.Math.Path.{refl, ap}
 use Rattle.std.proofs.Common.{sym, subst, ◌∙◌, mul-one, one-mul, mul_assoc, drop-drop, get_or-drop, leb-true, ltb-true, ltb-false, le-leb, lt-ltb, eq-eqb, ne_eqb, eqb-true}
 use Rattle.std.proofs.Math.Bool.{true, false, and-eq-true_iff}
@@ -34,11 +34,29 @@ use Rattle.literals.specs.Numbers.{
 }
 use Rattle.literals.specs.NumberLaws.{choice, run_digit, run_end}
 use Rattle.literals.specs.Strings.{is_quote, scan, string_by, string}
-use Rattle.literals.specs.Plain.{goes_on, is_int, int_end, is_float, fraction_end, float_end, Few, value_from, int_value, is_itself, is_plain, content_end, string_end}
+use Rattle.literals.specs.Plain.{goes_on, is_int, int_end, is_float, fraction_end, float_end, Few, value_from, int_value, is_itself, is_plain, content_end, some_end, string_end}
 use Rattle.characters.specs.Answers.{taken}
 use Rattle.characters.specs.declared.refusal.Refused.{Refused}
 use Rattle.literals.specs.Answers.{digits_to}
 use Rattle.literals.specs.declared.numbers.Numeral.{Numeral}
+
+-- ---- the end of a literal
+
+pub end_none : {n : ℕ} → 0 ≡ n → None ≡ some_end n
+end_none e = ap some_end e
+
+pub end_some : (e n : ℕ) → 0 < e → e ≡ n → Some e ≡ some_end n
+end_some zero n h e = let z : 0 < 0 = h in absurd (omega arith)
+end_some (suc k) n h e = ap some_end e
+
+-- where one was found, and where none was
+abbrev end_in : Option ℕ → ℕ
+end_in None = 0
+end_in (Some e) = e
+
+pub end_found : (e n : ℕ) → Some e ≡ some_end n → (e ≡ n) × (e ≡ 0 → ⊥)
+end_found e zero h = let z : ◌≡◌ {A = ℕ} 0 1 = cc in absurd (omega arith)
+end_found e (suc k) h = let z : e ≡ suc k = ap end_in h in (z, λ y. omega arith)
 
 -- ---- digits
 

@@ -1,10 +1,10 @@
-// Plain literals: integers and fractions of decimal digits, strings without escapes. A leaf that finds none answers 0, and the readers of all literals decide.
+// Plain literals: integers and fractions of decimal digits, strings without escapes. Where a leaf finds none, the readers of all literals decide.
 ghost use Rattle.std.specs.Prelude.{◌≡◌, true, ◌≤◌, ◌<◌, ◌^◌, length};
 ghost use Rattle.characters.specs.Text.{byte_at};
 ghost use Rattle.characters.specs.Counts.{end_of};
 ghost use Rattle.characters.specs.Names.{is_digit, is_small};
 ghost use Rattle.literals.specs.Strings.{is_quote};
-ghost use Rattle.literals.specs.Plain.{Few, IntOf, float_end, goes_on, int_end, is_itself, string_end};
+ghost use Rattle.literals.specs.Plain.{Few, IntOf, float_end, goes_on, int_end, is_itself, some_end, string_end};
 
 use characters::names::{is_name_byte, is_small};
 use characters::place::byte;
@@ -37,46 +37,46 @@ fn goes_on(b: u32) -> bool
     is_name_byte(b) || b == 46
 }
 
-// Where the plain integer at `from` ends, or 0: at most eighteen digits, which no number goes on behind. Its digits end at `end`.
-pub fn int_end(text: &[u8], from: u32, end: u32) -> u32
+// Where the plain integer at `from` ends, if one stands there: at most eighteen digits, which no number goes on behind. Its digits end at `end`.
+pub fn int_end(text: &[u8], from: u32, end: u32) -> Option<u32>
     requires { (from ≤ length text.now) × (length text.now < 2 ^ 31) × (end ≡ end_of is_digit text.now from) }
-    ensures { result ≡ int_end text.now from }
+    ensures { result ≡ some_end (int_end text.now from) }
 {
     if end <= from {
-        return 0;
+        return None;
     }
     if from + 18 < end {
-        return 0;
+        return None;
     }
     let b = byte(text, end);
     if goes_on(b) {
-        return 0;
+        return None;
     }
-    end
+    Some(end)
 }
 
-// Where the plain fraction at `from` ends, or 0: digits, a dot and digits, which no number goes on behind. Its first digits end at `dot`.
-pub fn float_end(text: &[u8], from: u32, dot: u32) -> u32
+// Where the plain fraction at `from` ends, if one stands there: digits, a dot and digits, which no number goes on behind. Its first digits end at `dot`.
+pub fn float_end(text: &[u8], from: u32, dot: u32) -> Option<u32>
     requires { (from ≤ length text.now) × (length text.now < 2 ^ 31) × (dot ≡ end_of is_digit text.now from) }
-    ensures { result ≡ float_end text.now from }
+    ensures { result ≡ some_end (float_end text.now from) }
 {
     if dot <= from {
-        return 0;
+        return None;
     }
     let b = byte(text, dot);
     if b != 46 {
-        return 0;
+        return None;
     }
     let first = dot + 1;
     let end = digits_end(text, first);
     if end <= first {
-        return 0;
+        return None;
     }
     let c = byte(text, end);
     if goes_on(c) {
-        return 0;
+        return None;
     }
-    end
+    Some(end)
 }
 
 // The value of the digits from `from` to `to`.
@@ -130,10 +130,10 @@ fn is_itself(b: u8) -> bool
     matches!(b, 32..=91 | 93..=126)
 }
 
-// Past the closing quote of the plain string that opens at `from`, or 0. Mostly small letters stand in it.
-pub fn plain_string_end(text: &[u8], from: u32) -> u32
+// Past the closing quote of the string that opens at `from`, if it is plain. Mostly small letters stand in it.
+pub fn plain_string_end(text: &[u8], from: u32) -> Option<u32>
     requires { (is_quote (byte_at text.now from) ≡ true) × (length text.now < 2 ^ 31) }
-    ensures { result ≡ string_end text.now from }
+    ensures { result ≡ some_end (string_end text.now from) }
 {
     let n = text.len();
     let at = from as usize;
@@ -142,15 +142,15 @@ pub fn plain_string_end(text: &[u8], from: u32) -> u32
     loop {
         i = small_end(text, i);
         if n <= i {
-            return 0;
+            return None;
         }
         let b = text[i];
         if b == quote {
             let end = i as u32;
-            return end + 1;
+            return Some(end + 1);
         }
         if !is_itself(b) {
-            return 0;
+            return None;
         }
         i += 1;
     }

@@ -6,7 +6,7 @@
 ghost use Rattle.std.specs.Prelude.{◌≡◌, true, ◌<◌, ◌^◌, length};
 ghost use Rattle.characters.specs.Text.{Stands};
 
-use cases::{Case, say};
+use cases::say;
 use characters::place::{Place, Span, byte};
 use characters::tokens;
 use characters::tokens::Look;
@@ -14,47 +14,13 @@ use literals::bytearrays::{Mode, Seen};
 use literals::numbers::Numeral;
 use literals::{bytearrays, numbers, strings};
 
-// A list that fills the buffer may have been cut, so it is not replayed.
 fn main() {
     let mut space = io::large_buffer();
-    let n = io::read_full(0, &mut space);
-    if 65535 < n {
-        io::write_all(1, b"the list is too long\n");
-        return;
-    }
-    replay(&space[..n]);
+    cases::replay_input(&mut space, answer);
 }
 
-// Answers one case after the other, and stops where none begins. All are of one kind.
-fn replay(list: &[u8])
-    requires { length list.now < 2 ^ 31 }
-{
-    let mut at: usize = 0;
-    loop {
-        let case = cases::next(list, at);
-        match case {
-            Case::Text {
-                kind: _,
-                from,
-                to,
-                next,
-            } => {
-                answer(&list[from..to]);
-                at = next;
-            }
-            Case::End => {
-                return;
-            }
-            Case::Bad { at: q } => {
-                say::bad(q);
-                return;
-            }
-        }
-    }
-}
-
-// The literal of one text.
-fn answer(text: &[u8])
+// The literal of one text. All cases are of one kind.
+fn answer(_kind: u8, text: &[u8])
     requires { length text.now < 2 ^ 31 }
 {
     match tokens::token(text, cases::start_of(text), b"x = ") {

@@ -1,5 +1,5 @@
 // The records that end a rule, made of those before them.
-ghost use Rattle.std.specs.Prelude.{◌≡◌, ◌≤◌};
+ghost use Rattle.std.specs.Prelude.{◌≡◌, ◌≤◌, length};
 ghost use Rattle.characters.specs.Text.{on_by};
 ghost use Rattle.reading.specs.Process.{make, plain};
 ghost use Rattle.records.specs.Rows.{record_of};
@@ -23,6 +23,7 @@ use records::row::Row;
 pub fn held(book: &mut Book, cap: u32, last: u32, at: Place) -> Result<Place, Refused>
     requires { HasRoom book.old cap }
     ensures lent { book.new.pool.ghost_name ≡ book.old.pool.ghost_name }
+    ensures sized { length book.new.pool.now ≡ length book.old.pool.now }
     ensures acts { Acting cap at book.old (make at (record_of (item_row (last_in book.old) last)) 0) result book.new }
 {
     let made = item(book.tally.records, last);
@@ -33,6 +34,7 @@ pub fn held(book: &mut Book, cap: u32, last: u32, at: Place) -> Result<Place, Re
 pub fn stated(book: &mut Book, cap: u32, last: u32, at: Place) -> Result<Place, Refused>
     requires { HasRoom book.old cap }
     ensures lent { book.new.pool.ghost_name ≡ book.old.pool.ghost_name }
+    ensures sized { length book.new.pool.now ≡ length book.old.pool.now }
     ensures acts { Acting cap at book.old (make at (record_of (stated_row (last_in book.old) last)) 0) result book.new }
 {
     let nowhere = Place {
@@ -55,6 +57,7 @@ pub fn make_fun(
 ) -> Result<Place, Refused>
     requires { HasRoom book.old cap }
     ensures lent { book.new.pool.ghost_name ≡ book.old.pool.ghost_name }
+    ensures sized { length book.new.pool.now ≡ length book.old.pool.now }
     ensures acts { Acting cap at book.old (fun_p from name (plain params at) (last_in book.old) at) result book.new }
 {
     let body = book.tally.records;
@@ -76,6 +79,7 @@ pub fn make_for(
 ) -> Result<Place, Refused>
     requires { HasRoom book.old cap }
     ensures lent { book.new.pool.ghost_name ≡ book.old.pool.ghost_name }
+    ensures sized { length book.new.pool.now ≡ length book.old.pool.now }
     ensures acts { Acting cap at book.old (for_end_p from (plain first at) (plain test at) (plain third at) (last_in book.old) at) result book.new }
 {
     let body = book.tally.records;
@@ -115,6 +119,7 @@ pub fn combine(
 ) -> Result<Place, Refused>
     requires { HasRoom book.old cap × (1 ≤ target) × (target ≤ book.old.tally.records) }
     ensures lent { book.new.pool.ghost_name ≡ book.old.pool.ghost_name }
+    ensures sized { length book.new.pool.now ≡ length book.old.pool.now }
     ensures acts { Acting cap at book.old (combine_p from op (node_at book.old.pool.now target) (last_in book.old) at) result book.new }
 {
     let value = book.tally.records;

@@ -9,6 +9,7 @@ ghost use Rattle.makers.specs.Plain.{Over, Plain, Rests, near_of};
 
 use characters::names::{name_end, word};
 use characters::place::{Place, Span, byte};
+use characters::reserved::Word;
 use grammar::rows::{leaf_row, row};
 use literals::plain::{digits_end, float_end, int_end, plain_int, plain_string_end};
 use records::kind::Kind;
@@ -54,30 +55,29 @@ fn plain_name(text: &[u8], pool: &mut [u32], at: Place, made: u32) -> u32
     let from = at.offset;
     let to = name_end(text, from);
     let bytes = to - from;
-    let k = word(text, from, to);
-    match k {
-        0 => {
+    match word(text, from, to) {
+        None => {
             let span = pack(Span { from, to });
             let made_row = row(Kind::Name, at, span, 0, 0);
             lay(pool, made, made_row);
             bytes
         }
-        1 => {
+        Some(Word::True) => {
             let made_row = row(Kind::True, at, 0, 0, 0);
             lay(pool, made, made_row);
             bytes
         }
-        2 => {
+        Some(Word::False) => {
             let made_row = row(Kind::False, at, 0, 0, 0);
             lay(pool, made, made_row);
             bytes
         }
-        3 => {
+        Some(Word::Nil) => {
             let made_row = row(Kind::Nil, at, 0, 0, 0);
             lay(pool, made, made_row);
             bytes
         }
-        _ => 0,
+        Some(_) => 0,
     }
 }
 
@@ -88,10 +88,9 @@ fn plain_number(text: &[u8], pool: &mut [u32], at: Place, made: u32) -> u32
 {
     let from = at.offset;
     let end = digits_end(text, from);
-    let to = int_end(text, from, end);
-    if to == 0 {
+    let Some(to) = int_end(text, from, end) else {
         return plain_fraction(text, pool, at, made, end);
-    }
+    };
     let value = plain_int(text, from, to);
     let made_row = leaf_row(Kind::Int, at, value);
     lay(pool, made, made_row);
@@ -104,10 +103,9 @@ fn plain_fraction(text: &[u8], pool: &mut [u32], at: Place, made: u32, dot: u32)
     ensures { Plain text.now (made + 1) at made result pool.old pool.new }
 {
     let from = at.offset;
-    let to = float_end(text, from, dot);
-    if to == 0 {
+    let Some(to) = float_end(text, from, dot) else {
         return 0;
-    }
+    };
     let span = pack(Span { from, to });
     let made_row = row(Kind::Float, at, span, 0, 0);
     lay(pool, made, made_row);
@@ -120,10 +118,9 @@ fn plain_string(text: &[u8], pool: &mut [u32], at: Place, made: u32) -> u32
     ensures { Plain text.now (made + 1) at made result pool.old pool.new }
 {
     let from = at.offset;
-    let to = plain_string_end(text, from);
-    if to == 0 {
+    let Some(to) = plain_string_end(text, from) else {
         return 0;
-    }
+    };
     let span = pack(Span { from, to });
     let made_row = row(Kind::String, at, span, 0, 0);
     lay(pool, made, made_row);

@@ -1,5 +1,5 @@
 // What a prefix sign makes of its operand, which is the last record made.
-ghost use Rattle.std.specs.Prelude.{◌≡◌, ◌≤◌};
+ghost use Rattle.std.specs.Prelude.{◌≡◌, ◌≤◌, length};
 ghost use Rattle.grammar.specs.Expressions.{minus_float, minus_int, minus_p, plus_p, sign_p};
 ghost use Rattle.makers.specs.Duties.{Acting, HasRoom, last_in};
 
@@ -24,6 +24,7 @@ pub fn signed(
 ) -> Result<Place, Refused>
     requires { HasRoom book.old cap × (1 ≤ book.old.tally.records) }
     ensures lent { book.new.pool.ghost_name ≡ book.old.pool.ghost_name }
+    ensures sized { length book.new.pool.now ≡ length book.old.pool.now }
     ensures acts { Acting cap at book.old (sign_p sign here (last_in book.old) at) result book.new }
 {
     if sign == 33 {
@@ -40,6 +41,7 @@ pub fn signed(
 fn minus(book: &mut Book, cap: u32, at: Place) -> Result<Place, Refused>
     requires { HasRoom book.old cap × (1 ≤ book.old.tally.records) }
     ensures lent { book.new.pool.ghost_name ≡ book.old.pool.ghost_name }
+    ensures sized { length book.new.pool.now ≡ length book.old.pool.now }
     ensures acts { Acting cap at book.old (minus_p (last_in book.old) at) result book.new }
 {
     let node = book.tally.records;

@@ -1,5 +1,5 @@
 // The book: a lent pool, and what was counted so far. A reader makes its records here.
-ghost use Rattle.std.specs.Prelude.{◌≡◌, ◌≤◌, ◌<◌};
+ghost use Rattle.std.specs.Prelude.{◌≡◌, ◌≤◌, ◌<◌, length};
 ghost use Rattle.reading.specs.Gots.{got_of};
 ghost use Rattle.records.specs.Words.{whole_of};
 ghost use Rattle.records.specs.Rows.{Lent};
@@ -26,6 +26,7 @@ impl<'a> Book<'a> {
     pub fn make(&mut self, cap: u32, at: Place, row: Row) -> Result<Place, Refused>
         requires { Lent self.old.pool.now cap }
         ensures lent { self.new.pool.ghost_name ≡ self.old.pool.ghost_name }
+        ensures sized { length self.new.pool.now ≡ length self.old.pool.now }
         ensures makes { MakesRow cap self.old.tally at row (got_of result self.new.tally) self.old.pool.now self.new.pool.now }
     {
         let made = self.tally.records;
@@ -53,6 +54,7 @@ impl<'a> Book<'a> {
     ) -> Result<Place, Refused>
         requires { (Lent self.old.pool.now cap) × (1 ≤ like) × (like ≤ cap) }
         ensures lent { self.new.pool.ghost_name ≡ self.old.pool.ghost_name }
+        ensures sized { length self.new.pool.now ≡ length self.old.pool.now }
         ensures makes { MakesRow cap self.old.tally at (row_like self.old.pool.now kind like a b c) (got_of result self.new.tally) self.old.pool.now self.new.pool.now }
     {
         let position = self.position_of(like);

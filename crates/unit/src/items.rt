@@ -1,5 +1,5 @@
 // The unit: its items, and what ends it.
-ghost use Rattle.std.specs.Prelude.{◌≡◌, ◌≤◌, ◌<◌};
+ghost use Rattle.std.specs.Prelude.{◌≡◌, ◌≤◌, ◌<◌, length};
 ghost use Rattle.records.specs.Kinds.{number_of};
 ghost use Rattle.records.specs.Nodes.{Stored, kind_at, node_at};
 ghost use Rattle.grammar.specs.Expressions.{turns};
@@ -61,6 +61,7 @@ fn statement_end(
 ) -> Result<Place, Refused>
     requires { MayGoOn reader.now book.old at × IsDeclared book.old last × (globals.old ≤ book.old.tally.records) × (kind_at book.old.pool.now book.old.tally.records < number_of Kind.ClassDecl) }
     ensures lent { book.new.pool.ghost_name ≡ book.old.pool.ghost_name }
+    ensures sized { length book.new.pool.now ≡ length book.old.pool.now }
     ensures makes { MakingItem reader.now book.old last globals.old at result globals.new book.new }
 {
     let number = book.tally.records;
@@ -99,6 +100,7 @@ fn statement_item(
 ) -> Result<Place, Refused>
     requires { MayRead reader.now book.old at × IsDeclared book.old last × (globals.old ≤ book.old.tally.records) }
     ensures lent { book.new.pool.ghost_name ≡ book.old.pool.ghost_name }
+    ensures sized { length book.new.pool.now ≡ length book.old.pool.now }
     ensures reads { ReadingStatement reader.now book.old left last globals.old at result globals.new book.new }
 {
     let q = reader.statement(book, left, at)?;
@@ -117,6 +119,7 @@ fn class_item(
 ) -> Result<Place, Refused>
     requires { MayRead reader.now book.old at × IsDeclared book.old last }
     ensures lent { book.new.pool.ghost_name ≡ book.old.pool.ghost_name }
+    ensures sized { length book.new.pool.now ≡ length book.old.pool.now }
     ensures reads { ReadingClass reader.now book.old left last from at result book.new }
 {
     let q = class(reader, book, left, from, last, at)?;

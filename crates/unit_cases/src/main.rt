@@ -3,45 +3,12 @@
 // second reading, what must be written.
 #![tactic(auto)]
 
-use cases::{Case, say};
 use reading::answer::Answer;
 use unit::entries::{read, read_short};
 
-// A list that fills the buffer may have been cut, so it is not replayed.
 fn main() {
     let mut space = [0u8; 262144];
-    let n = io::read_full(0, &mut space);
-    if 262143 < n {
-        io::write_all(1, b"the list is too long\n");
-        return;
-    }
-    replay(&space[..n]);
-}
-
-// Answers one case after the other, and stops where none begins.
-fn replay(list: &[u8]) {
-    let mut at: usize = 0;
-    loop {
-        let case = cases::next(list, at);
-        match case {
-            Case::Text {
-                kind,
-                from,
-                to,
-                next,
-            } => {
-                answer(kind, &list[from..to]);
-                at = next;
-            }
-            Case::End => {
-                return;
-            }
-            Case::Bad { at: q } => {
-                say::bad(q);
-                return;
-            }
-        }
-    }
+    cases::replay_input(&mut space, answer);
 }
 
 // A pool of 1,024 records.

@@ -25,7 +25,7 @@ use Rattle.reading.proofs.Laws.Does.{by_done, by_stop, then, stops, along, by_fo
 use Rattle.records.specs.declared.row.Row.{Row}
 use Rattle.records.specs.Rows.{Lent, layout}
 use Rattle.records.specs.Nodes.{Stored, held_at, value_at, node_at, MakesRow}
-use Rattle.records.proofs.Laws.Nodes.{row_as, read_of, refused_of}
+use Rattle.records.proofs.Laws.Nodes.{row_as, read_of, refused_of, does_length}
 use Rattle.grammar.specs.declared.heads.ClassHead.{ClassHead}
 use Rattle.grammar.specs.Answers.{opens_class}
 use Rattle.grammar.specs.Leaves.{close_of}
@@ -177,6 +177,7 @@ class_made e f g m = record { reads = λ s k comps left. reads_fresh e f (reads_
 -- ---- the loop over methods: what is left of it answers for the whole
 
 pub record MethodTurns (s pool₀ : List ℕ) (cap comps left : ℕ) (at : Place) (t : Tally) (pool : List ℕ) (here : Place) (tally : Tally) (last : ℕ) : Type 0 where
+  pub same : length pool ≡ length pool₀
   pub ready : Ready s pool cap here tally
   pub turn : Turning s at here
   pub names : List Span
@@ -185,7 +186,7 @@ pub record MethodTurns (s pool₀ : List ℕ) (cap comps left : ℕ) (at : Place
       → Does layout (grammar s) cap comps left t (methods_p (turns s) s [] 0 at) r pool₀ B
 
 pub methods_first : {s pool : List ℕ} {cap comps left : ℕ} {at : Place} {t : Tally} → Ready s pool cap at t → MethodTurns s pool cap comps left at t pool at t 0
-methods_first g = record { ready = g; turn = turn_first g.stands; names = []; listed = listed_none; rest = λ r B d. d }
+methods_first g = record { same = refl; ready = g; turn = turn_first g.stands; names = []; listed = listed_none; rest = λ r B d. d }
 
 module _ {s pool₀ : List ℕ} {cap comps left : ℕ} {at : Place} {t : Tally} {pool : List ℕ} {here : Place} {tally : Tally} {last : ℕ} (v : MethodTurns s pool₀ cap comps left at t pool here tally last)
     {l : Looked} (e : l ≡ close_of s here 125) where
@@ -238,6 +239,7 @@ module _ {s pool₀ : List ℕ} {cap comps left : ℕ} {at : Place} {t : Tally} 
             let w = methods_further in
             let names : List Span = with_name (name s h) v.names in
             record {
+              same = does_length method_reads.does ∙ v.same;
               ready = ready_then methods_here.0 g method_reads;
               turn = turn_on v.turn w;
               names = names;

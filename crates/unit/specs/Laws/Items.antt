@@ -1,5 +1,5 @@
 -- THE UNIT: each return of the readers of its items, of the loop over them and of what ends it. Assumes nothing.
-use Rattle.std.specs.Prelude.{◌≡◌, Bool, ◌&&◌, List, [], ◌∷◌, ℕ, suc, ◌+◌, ◌≤◌, ◌<◌, eqb, Ok, Result}
+use Rattle.std.specs.Prelude.{◌≡◌, Bool, ◌&&◌, List, [], ◌∷◌, ℕ, suc, ◌+◌, ◌≤◌, ◌<◌, eqb, length, Ok, Result}
 use Rattle.std.proofs.Math.Path.{refl, ap, subst, subst⁻¹}
 use Rattle.std.proofs.Common.{sym, ◌∙◌, arith, eq-eqb, ne_eqb}
 use Rattle.std.proofs.Math.Bool.{true, false}
@@ -413,6 +413,7 @@ module _ {cap : ℕ} {at : Place} {t : Tally} {A : List ℕ} {v : Row} (from : P
 -- ---- the loop over items: what is left of it answers for the whole
 
 pub record ItemTurns (s pool₀ : List ℕ) (cap comps left : ℕ) (at : Place) (t : Tally) (pool : List ℕ) (here : Place) (tally : Tally) (last globals : ℕ) : Type 0 where
+  pub same : length pool ≡ length pool₀
   pub ready : Ready s pool cap here tally
   pub turn : Turning s at here
   pub well : WellDeclared pool tally last
@@ -425,6 +426,7 @@ pub items_first : {s pool : List ℕ} {cap comps left : ℕ} {at : Place} {t : T
 items_first {s} {pool} {at = at} {t = t} g =
     let h : Declares pool t 0 nothing = declares_none in
     record {
+      same = refl;
       ready = g;
       turn = turn_first g.stands;
       well = well_declared h;
@@ -484,10 +486,11 @@ module _ {s pool₀ : List ℕ} {cap comps left : ℕ} {at : Place} {t : Tally} 
           let j = a.further in
           record { stands = a.stands; further = omega arith }
 
-      pub items_on : ItemTurns s pool₀ cap comps left at t mid q u u.records next
-      items_on =
+      pub items_on : length mid ≡ length pool → ItemTurns s pool₀ cap comps left at t mid q u u.records next
+      items_on z =
           let w = items_further in
           record {
+            same = z ∙ v.same;
             ready = d.ready x;
             turn = turn_on v.turn w;
             well = d.well x;

@@ -1,5 +1,6 @@
 -- `word` looks into the one slot that a name can be in. Assumes nothing.
-use Rattle.std.proofs.Common.{arith}
+use Rattle.std.proofs.Common.{refl, ap, ◌∙◌, arith}
+use Rattle.characters.specs.WordNumbers.{number_of_word}
 use Rattle.characters.proofs.Words.{other_head, empty_slot, other_rest, the_word, too_short, too_long}
 use Rattle.characters.proofs.names.word.Goals as goal
 
@@ -27,14 +28,14 @@ overflow_add-head c = let l = c.requires.1 in let a = c.byte-a.ensures.inside (o
 pub overflow_add-head-2 : goal.overflow_add-head-2
 overflow_add-head-2 c = let l = c.requires.1 in let a = c.byte-a.ensures.inside (omega arith) in let b = c.byte-b.ensures.inside (omega arith) in omega arith
 
-pub returns-then-k-eq0 : goal.returns-then-k-eq0
-returns-then-k-eq0 c = empty_slot _ _ _ c.requires.0 c.requires.1 _ _ c.byte-a.ensures c.byte-b.ensures c.if-n-lt2.false _ c.slot_at-k.ensures.0 c.if-k-eq0.true
+pub returns-in_err-held : goal.returns-in_err-held
+returns-in_err-held c = ap number_of_word c.from_residual.ensures ∙ empty_slot _ _ _ c.requires.0 c.requires.1 _ _ c.byte-a.ensures c.byte-b.ensures c.if-n-lt2.false _ c.in_err-held.ensures refl
 
-pub returns-then-head_at-head : goal.returns-then-head_at-head
-returns-then-head_at-head c = other_head _ _ _ c.requires.0 c.requires.1 _ _ c.byte-a.ensures c.byte-b.ensures c.if-n-lt2.false _ _ c.slot_at-k.ensures.0 c.head_at.ensures c.if-head_at-head.true
+pub returns-then-head : goal.returns-then-head
+returns-then-head c = other_head _ _ _ c.requires.0 c.requires.1 _ _ c.byte-a.ensures c.byte-b.ensures c.if-n-lt2.false _ _ c.in_ok-held.ensures c.head.ensures c.if-head.true
 
-pub returns-then-rest_at-rest : goal.returns-then-rest_at-rest
-returns-then-rest_at-rest c = other_rest _ _ _ c.requires.0 c.requires.1 _ _ c.byte-a.ensures c.byte-b.ensures c.if-n-lt2.false _ _ _ c.slot_at-k.ensures.0 c.rest_at.ensures c.fold-rest.ensures c.if-rest_at-rest.true
+pub returns-then-rest : goal.returns-then-rest
+returns-then-rest c = other_rest _ _ _ c.requires.0 c.requires.1 _ _ c.byte-a.ensures c.byte-b.ensures c.if-n-lt2.false _ _ _ c.in_ok-held.ensures c.rest.ensures c.fold-rest.ensures c.if-rest.true
 
 pub returns : goal.returns
-returns c = the_word _ _ _ c.requires.0 c.requires.1 _ _ c.byte-a.ensures c.byte-b.ensures c.if-n-lt2.false (λ i. omega (arith, c.type_inv.text i)) _ _ _ _ c.slot_at-k.ensures.0 c.head_at.ensures c.if-head_at-head.false c.rest_at.ensures c.fold-rest.ensures c.if-rest_at-rest.false
+returns c = the_word _ _ _ c.requires.0 c.requires.1 _ _ c.byte-a.ensures c.byte-b.ensures c.if-n-lt2.false (λ i. omega (arith, c.type_inv.text i)) _ _ _ _ c.in_ok-held.ensures c.head.ensures c.if-head.false c.rest.ensures c.fold-rest.ensures c.if-rest.false

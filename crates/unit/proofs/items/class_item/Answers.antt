@@ -1,4 +1,6 @@
 -- `class_item`: a class, its declaration and its item. Assumes nothing.
+use Rattle.std.proofs.Common.{◌∙◌}
+use Rattle.records.proofs.Laws.Nodes.{does_length}
 use Rattle.makers.specs.Laws.Acts.{room_of}
 use Rattle.unit.specs.Laws.Exits.{got_ok, got_err, still_refused}
 use Rattle.unit.specs.Laws.Items.{class_item_refused, class_lent, class_full, class_next, class_itemed}
@@ -21,3 +23,12 @@ stated-requires c = room_of (class_next c.requires.0 c.requires.1 c.class.ensure
 
 pub returns-clause-reads : goal.returns-clause-reads
 returns-clause-reads c = class_itemed c.requires.0 c.requires.1 c.class.ensures.reads (got_ok c.in_ok-q.was) c.row-declared.ensures c.make.ensures.makes (got_ok c.in_ok-r.was) c.stated.ensures.acts
+
+pub returns-in_err-q-clause-sized : goal.returns-in_err-q-clause-sized
+returns-in_err-q-clause-sized c = does_length c.class.ensures.reads.does
+
+pub returns-in_err-r-clause-sized : goal.returns-in_err-r-clause-sized
+returns-in_err-r-clause-sized c = c.make.ensures.sized ∙ does_length c.class.ensures.reads.does
+
+pub returns-clause-sized : goal.returns-clause-sized
+returns-clause-sized c = c.stated.ensures.sized ∙ c.make.ensures.sized ∙ does_length c.class.ensures.reads.does

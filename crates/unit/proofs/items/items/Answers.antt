@@ -40,7 +40,7 @@ loop-q-preserved-in-Class c =
     let f = let_through c.in_ok-q.was c.in-Class.is in
     record {
       lent = c.class_item.ensures.lent ∙ c.loop-q.invariant.lent;
-      turns = items_on c.loop-q.invariant.turns c.item_of.ensures f (items_class c.loop-q.invariant.turns c.item_of.ensures f).1 (c.class_item.ensures.reads.itemed c.loop-q.globals) (got_ok c.in_ok-here-in-Class.was);
+      turns = items_on c.loop-q.invariant.turns c.item_of.ensures f (items_class c.loop-q.invariant.turns c.item_of.ensures f).1 (c.class_item.ensures.reads.itemed c.loop-q.globals) (got_ok c.in_ok-here-in-Class.was) c.class_item.ensures.sized;
     }
 
 pub statement_item-requires : goal.statement_item-requires
@@ -61,5 +61,5 @@ loop-q-preserved c =
     let f = let_through c.in_ok-q.was c.in-Statement.is in
     record {
       lent = c.statement_item.ensures.lent ∙ c.loop-q.invariant.lent;
-      turns = items_on c.loop-q.invariant.turns c.item_of.ensures f (items_statement c.loop-q.invariant.turns c.item_of.ensures f).1 c.statement_item.ensures.reads (got_ok c.in_ok-here-in-Statement.was);
+      turns = items_on c.loop-q.invariant.turns c.item_of.ensures f (items_statement c.loop-q.invariant.turns c.item_of.ensures f).1 c.statement_item.ensures.reads (got_ok c.in_ok-here-in-Statement.was) c.statement_item.ensures.sized;
     }

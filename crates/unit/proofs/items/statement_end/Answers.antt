@@ -1,4 +1,5 @@
 -- `statement_end` by its rule: a global, a function whose name is new, or another statement. Assumes nothing.
+use Rattle.std.proofs.Common.{◌∙◌, ap, length}
 use Rattle.makers.specs.Laws.Acts.{room_of}
 use Rattle.unit.specs.Laws.Exits.{got_ok, got_err, still_refused}
 use Rattle.unit.specs.Laws.Items.{end_constant, end_clashes, function_ready, end_function, end_other}
@@ -18,3 +19,9 @@ returns-in_ok-compare_name-in-Function-clause-makes c = end_function c.args.glob
 
 pub returns-in-Other-clause-makes : goal.returns-in-Other-clause-makes
 returns-in-Other-clause-makes c = end_other c.args.globals.now c.requires.0 c.requires.1 c.requires.3 c.role_at.ensures c.in-Other.is c.stated-in-Other.ensures.acts
+
+pub returns-in_err-compare_name-in-Function-clause-sized : goal.returns-in_err-compare_name-in-Function-clause-sized
+returns-in_err-compare_name-in-Function-clause-sized c = ap length c.compare_name.ensures.same
+
+pub returns-in_ok-compare_name-in-Function-clause-sized : goal.returns-in_ok-compare_name-in-Function-clause-sized
+returns-in_ok-compare_name-in-Function-clause-sized c = c.stated.ensures.sized ∙ ap length c.compare_name.ensures.same

@@ -1,4 +1,6 @@
 -- `statement_item`: a statement, then its item. Assumes nothing.
+use Rattle.std.proofs.Common.{◌∙◌}
+use Rattle.records.proofs.Laws.Nodes.{does_length}
 use Rattle.unit.specs.Laws.Exits.{got_ok, got_err, still_refused}
 use Rattle.unit.specs.Laws.Items.{statement_refused, statement_begun, statement_few, statement_itemed}
 use Rattle.unit.proofs.items.statement_item.Goals as goal
@@ -11,3 +13,9 @@ statement_end-requires c = let z = statement_begun c.args.globals.now c.requires
 
 pub returns-clause-reads : goal.returns-clause-reads
 returns-clause-reads c = statement_itemed c.args.globals.now c.requires.0 c.requires.1 c.statement.ensures.reads (got_ok c.in_ok-q.was) c.statement_end.ensures.makes
+
+pub returns-in_err-q-clause-sized : goal.returns-in_err-q-clause-sized
+returns-in_err-q-clause-sized c = does_length c.statement.ensures.reads.does
+
+pub returns-clause-sized : goal.returns-clause-sized
+returns-clause-sized c = c.statement_end.ensures.sized ∙ does_length c.statement.ensures.reads.does

@@ -1,7 +1,5 @@
 -- Laws of rules that call no routine: what their contracts give a reader, and how a return of theirs comes about. Assumes nothing.
 use Rattle.std.specs.Prelude.{◌≡◌, refl, Bool, true, false, not, List, [], ◌∷◌, ℕ, ◌+◌, ◌≤◌, Result, Err, Ok}
-use Rattle.std.specs.Result.{IsErrAnd}
-use Rattle.std.proofs.lemmas.Result.{err_from_is_err_and}
 use Rattle.std.proofs.Common.{sym, ap, ◌∙◌, arith}
 use Rattle.std.proofs.Math.Path.{subst, subst⁻¹}
 use Rattle.characters.specs.declared.place.Place.{Place}
@@ -52,10 +50,6 @@ got_err {u = u} e = ap (λ (x : Result Place struct.Refused). got_of x u) e
 -- what was read, by what it was found to be
 pub ok_as : {A : Type 0} {r : Result A struct.Refused} {x y : A} → r ≡ Ok x → x ≡ y → r ≡ Ok y
 ok_as e f = e ∙ ap Ok f
-
--- `?` hands the refusal on as it is
-pub handed : {A : Type 0} (r : Result A struct.Refused) {x : struct.Refused} → IsErrAnd r (λ y. y ≡ x) → r ≡ Err x
-handed r i = let p = err_from_is_err_and r i in p.1 ∙ ap Err p.2
 
 -- ---- what the next one may be called with
 

@@ -3,15 +3,16 @@ use Rattle.std.proofs.Common.{ap, ◌∙◌, ℕ}
 use Rattle.reading.specs.Entry.{nowhere}
 use Rattle.records.specs.declared.kind.Kind.TheVariants as kinds
 use Rattle.grammar.specs.Leaves.{row_of}
-use Rattle.makers.specs.Laws.Acts.{got_read, got_err, handed}
+use Rattle.makers.specs.Laws.Acts.{got_read, got_err}
 use Rattle.makers.specs.Laws.NamesRead.{free_taken, taken_packs, param_fails, param_clashes, param_made}
+use Rattle.characters.specs.Answers.{handed}
 use Rattle.makers.proofs.names.param.Goals as goal
 
 pub returns-in_err-here-clause-acts : goal.returns-in_err-here-clause-acts
-returns-in_err-here-clause-acts c = rw (handed _ c.from_residual.ensures.1) (param_fails c.requires.0 c.requires.1 c.free_name.ensures c.in_err-here.was)
+returns-in_err-here-clause-acts c = rw (handed c.from_residual.ensures) (param_fails c.requires.0 c.requires.1 c.free_name.ensures c.in_err-here.was)
 
 pub returns-in_err-compare_name-clause-acts : goal.returns-in_err-compare_name-clause-acts
-returns-in_err-compare_name-clause-acts c = rw (handed _ c.from_residual-in_err-compare_name.ensures.1) (param_clashes c.requires.0 c.requires.1 c.free_name.ensures c.in_ok-here.was c.compare_name.ensures.compared c.compare_name.ensures.same (got_err c.in_err-compare_name.was))
+returns-in_err-compare_name-clause-acts c = rw (handed c.from_residual-in_err-compare_name.ensures) (param_clashes c.requires.0 c.requires.1 c.free_name.ensures c.in_ok-here.was c.compare_name.ensures.compared c.compare_name.ensures.same (got_err c.in_err-compare_name.was))
 
 pub name_word-word-requires : goal.name_word-word-requires
 name_word-word-requires c = taken_packs c.requires.0 (free_taken c.requires.0.stands c.free_name.ensures c.in_ok-here.was)

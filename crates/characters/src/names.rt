@@ -1,9 +1,9 @@
 // Names and reserved words.
-ghost use Rattle.std.specs.Prelude.{◌≡◌, ◌+◌, ◌≤◌, ◌<◌, ◌^◌, length};
+ghost use Rattle.std.specs.Prelude.{◌≡◌, ◌+◌, ◌-◌, ◌≤◌, ◌<◌, ◌^◌, length};
 ghost use Rattle.characters.specs.Text.{Stands};
 ghost use Rattle.characters.specs.Counts.{end_of};
 ghost use Rattle.characters.specs.Names.{fold_of, free_name, is_letter, is_name_byte, is_small, name, part, word_of};
-ghost use Rattle.characters.specs.WordNumbers.{number_of_word};
+ghost use Rattle.characters.specs.WordNumbers.{number_of_word, reserved_word};
 
 use crate::place::{Place, Token, byte};
 use crate::refusal::{Refusal, Refused};
@@ -19,11 +19,14 @@ pub fn is_letter(b: u32) -> bool
     matches!(b, 65..=90) || b == 95
 }
 
-// A letter, digit or `_`.
+// A letter, digit or `_`. Small letters first, as most are.
 pub fn is_name_byte(b: u32) -> bool
     ensures { result ≡ is_name_byte b }
 {
-    matches!(b, 48..=57 | 65..=90 | 97..=122) || b == 95
+    if 97 <= b {
+        return b <= 122;
+    }
+    matches!(b, 48..=57 | 65..=90) || b == 95
 }
 
 // A small letter.
@@ -47,7 +50,8 @@ pub fn name_end(text: &[u8], from: u32) -> u32
     text.len() as u32
 }
 
-// The name at `at`, with no blanks before it, or 11.
+// The name at `at`, with no blanks before it, or 11. Put into its callers, and places field by field, so that each stays in registers.
+#[inline(always)]
 pub fn name(text: &[u8], at: Place) -> Result<Token, Refused>
     requires { Stands text.now at }
     ensures { result ≡ name text.now at }
@@ -56,15 +60,19 @@ pub fn name(text: &[u8], at: Place) -> Result<Token, Refused>
     if !is_letter(b) {
         return Err(Refused {
             refusal: Refusal::ExpectedIdentifier,
-            at,
+            at: Place { ..at },
         });
     }
     let end = name_end(text, at.offset + 1);
     let next = at.on(end - at.offset);
-    Ok(Token { here: at, next })
+    Ok(Token {
+        here: Place { ..at },
+        next: Place { ..next },
+    })
 }
 
-// The name at `at`, or 11, or 12 where it is a reserved word.
+// The name at `at`, or 11, or 12 where it is a reserved word. Put into its callers, which then copy no answer.
+#[inline(always)]
 #[tactic(auto, unfolding(crate::specs::Names::free_name))]
 pub fn free_name(text: &[u8], at: Place) -> Result<Token, Refused>
     requires { Stands text.now at }
@@ -80,10 +88,10 @@ pub fn free_name(text: &[u8], at: Place) -> Result<Token, Refused>
     }
 }
 
-// The reserved word from `from` to `to`, if it is one: one look at the slot that it could be in.
+// The reserved word from `from` to `to`, if it is one. Small: the length of a name of one letter decides.
 pub fn word(text: &[u8], from: u32, to: u32) -> Option<Word>
     requires { (from ≤ to) × (to ≤ length text.now) }
-    ensures { number_of_word result ≡ word_of (part text.now from to) }
+    ensures { result ≡ reserved_word (part text.now from to) }
 {
     let n = to - from;
     if n < 2 {
@@ -92,6 +100,16 @@ pub fn word(text: &[u8], from: u32, to: u32) -> Option<Word>
     if 10 < n {
         return None;
     }
+    slotted(text, from, to)
+}
+
+// The reserved word of two to ten letters, if it is one: one look at the slot that it could be in. On its own, so that `word` needs no frame.
+#[inline(never)]
+fn slotted(text: &[u8], from: u32, to: u32) -> Option<Word>
+    requires { (from ≤ to) × (to ≤ length text.now) × (2 ≤ to - from) × (to - from ≤ 10) }
+    ensures { number_of_word result ≡ word_of (part text.now from to) }
+{
+    let n = to - from;
     let a = byte(text, from);
     let b = byte(text, from + 1);
     let slot = (21 * a + b + 14 * n) % 64;

@@ -60,20 +60,25 @@ impl Place {
         }
     }
 
-    // After the byte `b`, whichever it is.
+    // After the byte `b`, whichever it is. Test by test, since a `match` is compiled to sums of all its arms, which comments wait for.
     #[tactic(auto, unfolding(crate::specs::Text::past))]
     pub fn past(self, b: u32) -> Self
         requires { (self.offset + 1 < 2 ^ 32) × (self.line + 1 < 2 ^ 32) × (self.column + 1 < 2 ^ 32) }
         ensures { result ≡ past b self }
     {
-        match b {
-            10 => self.line_on(),
-            128..=191 => Self {
+        if b == 10 {
+            return self.line_on();
+        }
+        if b < 128 {
+            return self.on(1);
+        }
+        if b < 192 {
+            return Self {
                 offset: self.offset + 1,
                 ..self
-            },
-            _ => self.on(1),
+            };
         }
+        self.on(1)
     }
 
     // After the character that stands here; past the end only the column moves.

@@ -37,6 +37,13 @@ pub enum Word {
 }
 
 impl Word {
+    // Its number, from 1.
+    pub fn number(self) -> u32
+        ensures { result ≡ number_of self }
+    {
+        self as u32
+    }
+
     // The word in a slot. Each has a slot of its own, by its length and first two letters.
     pub(crate) fn in_slot(slot: u32) -> Option<Word>
         requires { slot < 64 }

@@ -15,13 +15,27 @@ pub enum Look {
     Missing { here: Place },
 }
 
-// Does the text go on with `w` at `from`?
+// Does the text go on with `w` at `from`? No word of the language has more than ten letters: those are compared up to the first byte that
+// differs, mostly the first of all.
 #[tactic(auto, using(crate::proofs::Looking::starts_spelled))]
 pub fn spelled(text: &[u8], from: u32, w: &[u8]) -> bool
     requires { from ≤ length text.now }
     ensures { result ≡ spells w.now (drop from text.now) }
 {
-    text[from as usize..].starts_with(w)
+    if 10 < w.len() {
+        return text[from as usize..].starts_with(w);
+    }
+    let start = from as usize;
+    let left = text.len() - start;
+    if left < w.len() {
+        return false;
+    }
+    for i in 0..w.len() {
+        if text[start + i] != w[i] {
+            return false;
+        }
+    }
+    true
 }
 
 // The token `w` past the blanks.
@@ -72,8 +86,17 @@ pub fn expect(text: &[u8], at: Place, w: &[u8]) -> Result<Token, Refused>
 }
 
 // The token of the one byte `b` past the blanks: no word to walk, and mostly no blank but spaces.
-#[tactic(auto, unfolding(crate::specs::Tokens::token))]
 pub fn sign(text: &[u8], at: Place, b: u8) -> Result<Look, Refused>
+    requires { Stands text.now at }
+    ensures { result ≡ token text.now at (b ∷ []) }
+{
+    byte_token(text, at, b)
+}
+
+// The same, put into `sign` and `need`, so that `need` copies no answer.
+#[inline(always)]
+#[tactic(auto, unfolding(crate::specs::Tokens::token))]
+fn byte_token(text: &[u8], at: Place, b: u8) -> Result<Look, Refused>
     requires { Stands text.now at }
     ensures { result ≡ token text.now at (b ∷ []) }
 {
@@ -100,17 +123,20 @@ fn sign_at(here: Place, stands: u32, b: u8) -> Look
     Look::Found { here, next }
 }
 
-// The token of the one byte `b` past the blanks, or 10.
+// The token of the one byte `b` past the blanks, or 10. Places field by field, so that each stays in registers.
 #[tactic(auto, unfolding(crate::specs::Tokens::expected))]
 pub fn need(text: &[u8], at: Place, b: u8) -> Result<Token, Refused>
     requires { Stands text.now at }
     ensures { result ≡ expected text.now at (b ∷ []) }
 {
-    match sign(text, at, b)? {
-        Look::Found { here, next } => Ok(Token { here, next }),
+    match byte_token(text, at, b)? {
+        Look::Found { here, next } => Ok(Token {
+            here: Place { ..here },
+            next: Place { ..next },
+        }),
         Look::Missing { here } => Err(Refused {
             refusal: Refusal::ExpectedToken,
-            at: here,
+            at: Place { ..here },
         }),
     }
 }

@@ -20,7 +20,8 @@ use Rattle.characters.specs.WordNumbers.{number_of, other_word}
 use Rattle.characters.specs.Answers.{missing, taken}
 use Rattle.characters.specs.Text.{Text, byte_at, ByteOf, ascii, on_by, Stands}
 use Rattle.characters.specs.PlaceLaws.{in_text, at_end, from_byte, from_end, front, on_by_stands}
-use Rattle.characters.specs.Blanks.{blanks}
+use Rattle.characters.specs.Blanks.{blanks, opens_blank}
+use Rattle.characters.specs.BlankLaws.{bare}
 use Rattle.characters.specs.Names.{is_name_byte, name, part, word_of}
 use Rattle.characters.specs.Tokens.{spells, found_by, is_keyword, keyword_past, keyword}
 use Rattle.characters.specs.TokenLaws.{TokenOn, keyword_on, spells_one}
@@ -116,6 +117,11 @@ pub keyword_missing : {s : Text} {at h q : Place} {c : ℕ} (x : ℕ) (w : Text)
 unfolding keyword
 keyword_missing {s} {at} {h} {q} x w v e g n =
     ap (λ (u : Bool). found_by u (length (x ∷ w)) q) (no_keyword s q x w (λ z. n (g.is ∙ z))) ∙ ap (keyword_past s (x ∷ w)) e
+
+-- from past the blanks the same keyword is found, so they are passed once
+pub keyword_there : {s : Text} (at : Place) {h q : Place} {c : ℕ} (x : ℕ) (w : Text) → taken h q ≡ blanks s at → ByteOf s q.offset c → c ≡ x → opens_blank x ≡ false → keyword s q w ≡ keyword s at w
+unfolding keyword
+keyword_there {s} at x w e g z n = ap (keyword_past s w) (sym (bare g (sym (ap opens_blank z)) n)) ∙ ap (keyword_past s w) e
 
 module _ {s : Text} {at h : Place} {l : Look} (w : Text) (v : Stands s at) (e : Ok l ≡ keyword s at w) where
   pub past_keyword : {n : Place} → l ≡ Found h n → Stands s n

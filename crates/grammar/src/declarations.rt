@@ -20,7 +20,7 @@ pub fn let_of(text: &[u8], at: Place) -> Result<LetHead, Refused>
     if front.byte != 118 {
         return let_named(text, front.here, 0);
     }
-    match keyword(text, at, b"var")? {
+    match keyword(text, front.here, b"var")? {
         Look::Found { here: _, next } => let_named(text, next, 1),
         Look::Missing { here } => let_named(text, here, 0),
     }
@@ -46,7 +46,7 @@ pub fn class_of(text: &[u8], at: Place) -> Result<ClassHead, Refused>
     if front.byte != 101 {
         return opened(text, front.here, 0);
     }
-    match keyword(text, at, b"extends")? {
+    match keyword(text, front.here, b"extends")? {
         Look::Found { here: _, next } => parent(text, next),
         Look::Missing { here } => opened(text, here, 0),
     }

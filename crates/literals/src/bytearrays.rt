@@ -91,6 +91,7 @@ fn between(text: &[u8], at: Place) -> Result<Seen, Refused>
 }
 
 // A byte of a `\a` run that stands for itself.
+#[inline(always)]
 fn plain(b: u32, at: Place) -> Seen
     requires { (at.offset + 2 < 2 ^ 32) × (at.column + 2 < 2 ^ 32) }
     ensures { result ≡ plain b at }
@@ -103,6 +104,7 @@ fn plain(b: u32, at: Place) -> Seen
 }
 
 // A byte of a `\a` run that is written by an escape.
+#[inline(always)]
 fn coded(v: u32, at: Place) -> Seen
     requires { (at.offset + 2 < 2 ^ 32) × (at.column + 2 < 2 ^ 32) }
     ensures { result ≡ coded v at }
@@ -159,6 +161,7 @@ fn line_end(text: &[u8], last: u32, at: Place) -> Result<Seen, Refused>
 }
 
 // The byte b at `at` in a `\a` run, which is no sign there: printable ASCII is content, and all else closes the run, as `]` does.
+#[inline(always)]
 #[tactic(auto, unfolding(crate::specs::ByteArrays::printed))]
 fn printed(text: &[u8], b: u32, at: Place) -> Result<Seen, Refused>
     requires { Stands text.now at }
@@ -172,6 +175,7 @@ fn printed(text: &[u8], b: u32, at: Place) -> Result<Seen, Refused>
 }
 
 // In a `\a` run.
+#[inline(always)]
 #[tactic(auto, unfolding(crate::specs::ByteArrays::ascii))]
 fn ascii(text: &[u8], last: u32, at: Place) -> Result<Seen, Refused>
     requires { Stands text.now at }
@@ -295,7 +299,9 @@ fn binary(text: &[u8], at: Place) -> Result<Seen, Refused>
     eight(text, next)
 }
 
-// What the text at `at` is. Seen by step this walks over the bytes: begin past `#[`, between runs, with `last` 256.
+// What the text at `at` is. Seen by step this walks over the bytes: begin past `#[`, between runs, with `last` 256. Put into its callers, as
+// the leaves of a `\a` run are, so that no answer is copied for each byte.
+#[inline(always)]
 #[tactic(auto, unfolding(crate::specs::ByteArrays::step))]
 pub fn step(text: &[u8], mode: Mode, last: u32, at: Place) -> Result<Seen, Refused>
     requires { Stands text.now at }

@@ -124,7 +124,9 @@ fn limited(text: &[u8], at: Place, radix: u64, room: u64) -> Result<Digits, Refu
     }
 }
 
-// Decimal digits; `none` is the refusal where the first of them is missing.
+// Decimal digits; `none` is the refusal where the first of them is missing. Put into its callers, since a float wants no value. Places are
+// answered field by field (`..p`), so that each stays in registers.
+#[inline(always)]
 fn decimals(text: &[u8], at: Place, none: Refusal) -> Result<Digits, Refused>
     requires { Stands text.now at }
     ensures { result ≡ held_run (digits false none 10 text.now at) }
@@ -132,7 +134,10 @@ fn decimals(text: &[u8], at: Place, none: Refusal) -> Result<Digits, Refused>
     let first = byte(text, at.offset);
     let f = digit(first);
     if 10 <= f {
-        return Err(Refused { refusal: none, at });
+        return Err(Refused {
+            refusal: none,
+            at: Place { ..at },
+        });
     }
     let mut p = at;
     let mut value: u64 = 0;
@@ -149,12 +154,15 @@ fn decimals(text: &[u8], at: Place, none: Refusal) -> Result<Digits, Refused>
             if 10 <= e {
                 return Err(Refused {
                     refusal: Refusal::MisplacedSeparator,
-                    at: p,
+                    at: Place { ..p },
                 });
             }
             p = q;
         } else {
-            return Ok(Digits { value, next: p });
+            return Ok(Digits {
+                value,
+                next: Place { ..p },
+            });
         }
     }
 }
@@ -168,12 +176,12 @@ fn integer(value: u64, next: Place) -> Result<Numeral, Refused>
         let signed = value as i64;
         return Ok(Numeral::Int {
             value: signed,
-            next,
+            next: Place { ..next },
         });
     }
     Err(Refused {
         refusal: Refusal::OutsideInt64,
-        at: next,
+        at: Place { ..next },
     })
 }
 
@@ -265,7 +273,7 @@ fn based(text: &[u8], at: Place, radix: u64, room: u64) -> Result<Numeral, Refus
     if radix <= f {
         return Err(Refused {
             refusal: Refusal::ExpectedDigit,
-            at,
+            at: Place { ..at },
         });
     }
     let read = limited(text, at, radix, room)?;

@@ -228,7 +228,8 @@ fn same_by(spelled: bool, a: &[u8], b: &[u8]) -> bool
 }
 
 // THE WALK: a new name and those of the items from `last` back, "newest first, up to the first equal". Each comparison is counted when
-// `at` is reached; a name that stands there already is 30 at `from`.
+// `at` is reached; a name that stands there already is 30 at `from`. Put into its callers, so that each walks over one kind of items.
+#[inline(always)]
 pub fn new_name(
     text: &[u8],
     pool: &[u32],
@@ -285,7 +286,8 @@ pub fn new_key(
     new_name(text, pool, comps, tally, at, at, key, last, Naming::Keys)
 }
 
-// The walk over the records of a book, which stay as they are.
+// The walk over the records of a book, which stay as they are. Put into its callers, as the walk is.
+#[inline(always)]
 pub fn compare_name(
     text: &[u8],
     book: &mut Book,

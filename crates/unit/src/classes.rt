@@ -109,6 +109,7 @@ fn make_class(
 ) -> Result<Place, Refused>
     requires { HasRoom book.old cap }
     ensures lent { book.new.pool.ghost_name ≡ book.old.pool.ghost_name }
+    ensures sized { length book.new.pool.now ≡ length book.old.pool.now }
     ensures acts { Acting cap at book.old (class_end_p from name parent (plain methods at) at) result book.new }
 {
     let tally = book.tally;

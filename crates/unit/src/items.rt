@@ -132,6 +132,7 @@ fn class_item(
 fn unit_end(book: &mut Book, cap: u32, from: Place, last: u32, at: Place) -> Result<Place, Refused>
     requires { HasRoom book.old cap }
     ensures lent { book.new.pool.ghost_name ≡ book.old.pool.ghost_name }
+    ensures sized { length book.new.pool.now ≡ length book.old.pool.now }
     ensures acts { Acting cap at book.old (unit_end_p from last at) result book.new }
 {
     let block = row(Kind::Block, from, last, 0, 0);

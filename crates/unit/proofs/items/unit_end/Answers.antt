@@ -1,4 +1,5 @@
 -- `unit_end` by its rule: a block, then a function. Assumes nothing.
+use Rattle.std.proofs.Common.{◌∙◌}
 use Rattle.unit.specs.Laws.Exits.{still_refused}
 use Rattle.unit.specs.Laws.Items.{block_full, block_room, unit_ended}
 use Rattle.makers.specs.Laws.Acts.{got_read, got_err}
@@ -12,3 +13,9 @@ make_fun-requires c = block_room c.args.from c.args.last c.row-block.ensures c.m
 
 pub returns-clause-acts : goal.returns-clause-acts
 returns-clause-acts c = unit_ended c.args.from c.args.last c.row-block.ensures c.make.ensures.makes (got_read c.in_ok-q.was) c.make_fun.ensures.acts
+
+pub returns-in_err-q-clause-sized : goal.returns-in_err-q-clause-sized
+returns-in_err-q-clause-sized c = c.make.ensures.sized
+
+pub returns-clause-sized : goal.returns-clause-sized
+returns-clause-sized c = c.make_fun.ensures.sized ∙ c.make.ensures.sized

@@ -1,10 +1,10 @@
--- `sign` compares one byte past the blanks, which mostly are spaces. Assumes nothing.
+-- `byte_token` compares one byte past the blanks, which mostly are spaces. Assumes nothing.
 use Rattle.std.proofs.Common.{refl, arith}
 use borrow.Author.Tests.{not-true}
 use Rattle.characters.specs.PlaceLaws.{room}
 use Rattle.characters.specs.BlankLaws.{only_spaces, spaced_stands}
 use Rattle.characters.proofs.Looking.{passed, sign_by}
-use Rattle.characters.proofs.tokens.sign.Goals as goal
+use Rattle.characters.proofs.tokens.byte_token.Goals as goal
 
 pub on-near-requires : goal.on-near-requires
 on-near-requires c = let h = room (spaced_stands c.requires c.spaces-n.ensures refl) in (omega arith, omega arith)

@@ -58,7 +58,7 @@ reserved_word w = word_numbered (word_of w)
 
 -- ---- no two have one number
 
-word_at : (w : Option Word) → get_or words (number_of_word w) None ≡ w
+word_at : (w : Option Word) → word_numbered (number_of_word w) ≡ w
 word_at None = refl
 word_at (Some True) = refl
 word_at (Some False) = refl
@@ -93,12 +93,25 @@ abbrev word_in : Option Word → Word
 word_in None = True
 word_in (Some w) = w
 
--- what has the number of a name's word is that word,
-pub told : (r : Option Word) (w : Text) → number_of_word r ≡ word_of w → r ≡ reserved_word w
-unfolding reserved_word
-told r w e = sym (word_at r) ∙ ap word_numbered e
+pub same_word : (v w : Word) → number_of v ≡ number_of w → v ≡ w
+same_word v w e = ap word_in (sym (word_at (Some v)) ∙ ap word_numbered e ∙ word_at (Some w))
 
--- and the word has its number
+-- another word has another number
+pub other_word : (v w : Word) → (v ≡ w → ⊥) → eqb (number_of v) (number_of w) ≡ false
+other_word v w n = ne_eqb (number_of v) (number_of w) (λ e. n (same_word v w e))
+
+-- no word has the number 0
+pub some_word : (w : Word) → eqb (number_of w) 0 ≡ false
+some_word w =
+    ne_eqb (number_of w) 0
+    (λ e.
+    let h : None ≡ Some w = ap word_numbered (sym e) ∙ word_at (Some w) in
+    let z : ◌≡◌ {A = ℕ} 0 1 = cc in
+    absurd (omega arith))
+
+-- ---- the word that a name is, by its number and the other way round
+
+-- no name has a number past the last word's
 numbered_below : (k : ℕ) (ws : List Text) (n : Text) → 0 < k → numbered k ws n < k + length ws
 unfolding numbered
 numbered_below k [] n h = omega arith
@@ -135,22 +148,12 @@ word_small : (w : Text) → word_of w < 29
 unfolding word_of
 word_small w = numbered_below 1 reserved w (omega arith)
 
+-- what has the number of a name's word is the word that the name is,
+pub told : (r : Option Word) (w : Text) → number_of_word r ≡ word_of w → r ≡ reserved_word w
+unfolding reserved_word
+told r w e = sym (word_at r) ∙ ap word_numbered e
+
+-- and the word that a name is has the number of the name's word
 pub numbered_back : {r : Option Word} (w : Text) → r ≡ reserved_word w → number_of_word r ≡ word_of w
 unfolding reserved_word
 numbered_back w e = ap number_of_word e ∙ placed_at 0 words all_placed (word_of w) (word_small w) ∙ (let z : 0 + word_of w ≡ word_of w = omega arith in z)
-
-pub same_word : (v w : Word) → number_of v ≡ number_of w → v ≡ w
-same_word v w e = ap word_in (sym (word_at (Some v)) ∙ ap (λ (k : ℕ). get_or words k None) e ∙ word_at (Some w))
-
--- another word has another number
-pub other_word : (v w : Word) → (v ≡ w → ⊥) → eqb (number_of v) (number_of w) ≡ false
-other_word v w n = ne_eqb (number_of v) (number_of w) (λ e. n (same_word v w e))
-
--- no word has the number 0
-pub some_word : (w : Word) → eqb (number_of w) 0 ≡ false
-some_word w =
-    ne_eqb (number_of w) 0
-    (λ e.
-    let h : None ≡ Some w = ap (λ (k : ℕ). get_or words k None) (sym e) ∙ word_at (Some w) in
-    let z : ◌≡◌ {A = ℕ} 0 1 = cc in
-    absurd (omega arith))

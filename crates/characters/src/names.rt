@@ -88,7 +88,7 @@ pub fn free_name(text: &[u8], at: Place) -> Result<Token, Refused>
     }
 }
 
-// The reserved word from `from` to `to`, if it is one. Small: the length of a name of one letter decides.
+// The reserved word from `from` to `to`, if it is one. A name of one letter, or of more than ten, is told by its length.
 pub fn word(text: &[u8], from: u32, to: u32) -> Option<Word>
     requires { (from ≤ to) × (to ≤ length text.now) }
     ensures { result ≡ reserved_word (part text.now from to) }
@@ -103,7 +103,8 @@ pub fn word(text: &[u8], from: u32, to: u32) -> Option<Word>
     slotted(text, from, to)
 }
 
-// The reserved word of two to ten letters, if it is one: one look at the slot that it could be in. On its own, so that `word` needs no frame.
+// The reserved word of two to ten letters, if it is one: one look at the slot that it could be in. It stands apart, so that `word` needs no
+// frame.
 #[inline(never)]
 fn slotted(text: &[u8], from: u32, to: u32) -> Option<Word>
     requires { (from ≤ to) × (to ≤ length text.now) × (2 ≤ to - from) × (to - from ≤ 10) }

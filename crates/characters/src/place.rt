@@ -60,7 +60,8 @@ impl Place {
         }
     }
 
-    // After the byte `b`, whichever it is. Test by test, since a `match` is compiled to sums of all its arms, which comments wait for.
+    // After the byte `b`, whichever it is. One test after the other: as a `match` it is compiled without a jump, and each byte of a comment
+    // then waits for the one before.
     #[tactic(auto, unfolding(crate::specs::Text::past))]
     pub fn past(self, b: u32) -> Self
         requires { (self.offset + 1 < 2 ^ 32) × (self.line + 1 < 2 ^ 32) × (self.column + 1 < 2 ^ 32) }

@@ -15,8 +15,8 @@ pub enum Look {
     Missing { here: Place },
 }
 
-// Does the text go on with `w` at `from`? No word of the language has more than ten letters: those are compared up to the first byte that
-// differs, mostly the first of all.
+// Does the text go on with `w` at `from`? The words of the language have at most ten letters: such a word is compared up to the first byte
+// that differs, which mostly is its first.
 #[tactic(auto, using(crate::proofs::Looking::starts_spelled))]
 pub fn spelled(text: &[u8], from: u32, w: &[u8]) -> bool
     requires { from ≤ length text.now }
